@@ -1,0 +1,4 @@
+pub mod Overwriting
+pub mod Packs
+pub mod Parts
+pub mod Powers

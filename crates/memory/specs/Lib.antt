@@ -1,0 +1,7 @@
+pub mod Cells
+pub mod Packing
+pub mod Refusals
+pub mod Rows
+pub mod Rules
+pub mod Sizes
+pub mod Windows

@@ -1,0 +1,28 @@
+-- The number, the place and the layer of every refusal.
+use Prim.Native.Nat.{ℕ}
+use mathlib.Core.Bool.{cond}
+use lib.Dec.{leb}
+use Rattle.memory.specs.declared.refusals.Layer.{Layer}
+use Rattle.memory.specs.declared.refusals.Layer.the-variants.{Ring, Memory, Trace}
+use Rattle.memory.specs.declared.refusals.Refusal.{Refusal}
+use Rattle.memory.specs.declared.refusals.Refusal.the-variants.{WindowOutside, PageTooShort, PageVersion, PageLength, PageSize, TraceHead}
+
+abbrev pub numberOf : Refusal → ℕ
+numberOf WindowOutside = 9
+numberOf PageTooShort = 10
+numberOf PageVersion = 11
+numberOf PageLength = 12
+numberOf PageSize = 13
+numberOf TraceHead = 14
+
+abbrev pub placeOf : Refusal → ℕ
+placeOf WindowOutside = 0
+placeOf PageTooShort = 0
+placeOf PageVersion = 0
+placeOf PageLength = 1
+placeOf PageSize = 5
+placeOf TraceHead = 0
+
+-- ring for 1 to 8, memory for 9 to 13, trace for 14 to 16
+abbrev pub layerOf : Refusal → Layer
+layerOf r = cond (leb (numberOf r) 8) Ring (cond (leb (numberOf r) 13) Memory Trace)

@@ -1,0 +1,51 @@
+-- What the calls of a memory do to its list of cells.
+use Prim.Native.Nat.{ℕ, _+_}
+use mathlib.Core.Bool.{Bool, cond, _&&_}
+use mathlib.Core.List.{List, []}
+use lib.Dec.{eqb, ltb}
+use lib.ListN.{length, getD, set}
+use Rattle.std.specs.declared.option.Option.{Option}
+use Rattle.std.specs.declared.option.Option.the-variants.{Some, None}
+use Rattle.memory.specs.declared.cells.Cell.{Cell}
+use Rattle.memory.specs.declared.cells.Limits.{Limits}
+use Rattle.memory.specs.declared.rules.Exchanged.{Exchanged}
+use Rattle.memory.specs.declared.rules.Exchanged.the-variants.{Done, Differs, Unfit, NoCell}
+use Rattle.memory.specs.Cells.{fresh, fits}
+use Rattle.memory.specs.Rows.{overwritten}
+
+-- what a look at an index finds
+abbrev pub lookAt : List Cell → ℕ → Option Cell
+lookAt cells i = cond (ltb i (length cells)) (Some (getD cells i fresh)) None
+
+-- the same value and the same round
+abbrev pub alike : Cell → Cell → Bool
+alike a b = eqb (a .value) (b .value) && eqb (a .round) (b .round)
+
+-- what an exchange answers where a look finds this
+abbrev pub answerAt : Limits → Option Cell → Cell → Cell → Exchanged
+answerAt limits None expected new = NoCell
+answerAt limits (Some found) expected new = cond (fits limits new) (cond (alike found expected) Done Differs) Unfit
+
+abbrev pub exchangeAnswer : Limits → List Cell → ℕ → Cell → Cell → Exchanged
+exchangeAnswer limits cells i expected new = answerAt limits (lookAt cells i) expected new
+
+-- only 'done' changes anything, and only that cell
+abbrev pub storedBy : Exchanged → List Cell → ℕ → Cell → List Cell
+storedBy Done cells i new = set cells i new
+storedBy Differs cells i new = cells
+storedBy Unfit cells i new = cells
+storedBy NoCell cells i new = cells
+
+abbrev pub exchanged : Limits → List Cell → ℕ → Cell → Cell → List Cell
+exchanged limits cells i expected new = storedBy (exchangeAnswer limits cells i expected new) cells i new
+
+-- the cells from `start` on, `count` of them, are empty at round 0
+abbrev pub cleared : List Cell → ℕ → ℕ → List Cell
+cleared cells start count = overwritten fresh cells start count
+
+-- What a memory has besides its cells, which no call changes.
+pub data Frame : Type 0 where
+  -- a lent slice, by the name of the lender's reference, with the bytes that belong to no cell
+  lent : ℕ → List ℕ → Frame
+  -- a part of a memory: its start and count, the cells before it, the cells behind it, and the frame of that memory
+  part : ℕ → ℕ → List Cell → List Cell → Frame → Frame

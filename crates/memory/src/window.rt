@@ -1,0 +1,131 @@
+// A window: a part of a memory, which is a memory too.
+ghost use Prim.Native.Nat.{ℕ, _+_, _^_, _<_};
+ghost use mathlib.Core.Path.{_≡_};
+ghost use mathlib.Core.Bool.{cond};
+ghost use mathlib.Core.List.{List};
+ghost use lib.ListN.{length};
+ghost use Rattle.std.specs.Results.{isOk};
+ghost use Rattle.memory.specs.declared.cells.Cell.{Cell};
+ghost use Rattle.memory.specs.Windows.{windowed, framed, aimed, Reaches, SamePart};
+use crate::cells::Cell;
+use crate::cells::Limits;
+use crate::refusals::Refusal;
+use crate::rules::Exchanged;
+use crate::rules::Memory;
+
+// The cells of a memory from `start` on, `count` of them. No call touches a cell outside.
+pub struct Window<M: Memory> {
+    below: M,
+    start: usize,
+    count: usize,
+    ghost ends: { start + count < 2 ^ 64 },
+}
+
+// How many cells a window has on a memory of this size.
+fn clipped(start: usize, count: usize, size: usize) -> usize
+    ensures { λ r. ⌜ ((cells : List Cell) → length cells ≡ size → r ≡ length (windowed start count cells)) ⌝ }
+{
+    count.min(size.saturating_sub(start))
+}
+
+impl<M: Memory> Window<M> {
+    // A window on the whole of a memory.
+    pub fn over(below: M) -> Window<M>
+        ensures below { λ r. ⌜ r .below ≡ below ⌝ }
+        ensures start { λ r. ⌜ r .start ≡ 0 ⌝ }
+        ensures count { λ r. ⌜ r .count ≡ length (M·Memory .cells below) ⌝ }
+    {
+        let count = below.size();
+        Window {
+            below,
+            start: 0,
+            count,
+        }
+    }
+
+    // The memory below.
+    pub fn into_below(self) -> M
+        ensures { λ r. ⌜ r ≡ self .below ⌝ }
+    {
+        let Window {
+            below,
+            start: _,
+            count: _,
+        } = self;
+        below
+    }
+
+    // Aims the window at the cells from `start` on, `count` of them.
+    pub fn aim(&mut self, start: usize, count: usize) -> Result<(), Refusal>
+        ensures answer { λ r. ⌜ r ≡ aimed start count (M·Memory .cells (now (self .entry) .below)) ⌝ }
+        ensures below { λ _. ⌜ now (self .exit) .below ≡ now (self .entry) .below ⌝ }
+        ensures start { λ r. ⌜ now (self .exit) .start ≡ cond (isOk r) start (now (self .entry) .start) ⌝ }
+        ensures count { λ r. ⌜ now (self .exit) .count ≡ cond (isOk r) count (now (self .entry) .count) ⌝ }
+    {
+        let size = self.below.size();
+        if count == 0 || start > size || count > size - start {
+            return Err(Refusal::WindowOutside);
+        }
+        self.start = start;
+        self.count = count;
+        Ok(())
+    }
+
+    // The index below of an index of the window; none outside.
+    fn reach(&self, at: usize) -> Option<usize>
+        ensures { λ r. ⌜ Reaches (now (self .entry) .start) (now (self .entry) .count) (M·Memory .cells (now (self .entry) .below)) at r ⌝ }
+    {
+        if at < self.count {
+            Some(self.start + at)
+        } else {
+            None
+        }
+    }
+
+    // The start and count below of a start and count of the window, as far as they lie in it.
+    fn cover(&self, start: usize, count: usize) -> (usize, usize)
+        ensures { λ r. ⌜ SamePart (now (self .entry) .start) (now (self .entry) .count) (M·Memory .cells (now (self .entry) .below)) start count (r .0) (r .1) ⌝ }
+    {
+        let skipped = start.min(self.count);
+        (self.start + skipped, count.min(self.count - skipped))
+    }
+}
+
+pub impl<M: Memory> Memory for Window<M> as WindowMemory {
+    const LARGEST_VALUE: u64 = M::LARGEST_VALUE;
+
+    const LAST_ROUND: u32 = M::LAST_ROUND;
+
+    ghost cells = { λ w. windowed (w .start) (w .count) (M·Memory .cells (w .below)) };
+
+    ghost bounds = { M·Memory .bounds };
+
+    ghost frame = { λ w. framed (w .start) (w .count) (M·Memory .cells (w .below)) (M·Memory .frame (w .below)) };
+
+    fn limits(&self) -> Limits {
+        self.below.limits()
+    }
+
+    fn size(&self) -> usize {
+        clipped(self.start, self.count, self.below.size())
+    }
+
+    fn look(&self, at: usize) -> Option<Cell> {
+        match self.reach(at) {
+            Some(at) => self.below.look(at),
+            None => None,
+        }
+    }
+
+    fn exchange(&mut self, at: usize, expected: Cell, new: Cell) -> Exchanged {
+        match self.reach(at) {
+            Some(at) => self.below.exchange(at, expected, new),
+            None => Exchanged::NoCell,
+        }
+    }
+
+    fn clear(&mut self, start: usize, count: usize) {
+        let (start, count) = self.cover(start, count);
+        self.below.clear(start, count);
+    }
+}
