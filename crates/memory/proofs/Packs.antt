@@ -3,6 +3,7 @@ use Prim.Native.Nat.{ℕ, _+_, _*_, _/_, _%_, _^_, _<_, _≤_}
 use mathlib.Core.Path.{_≡_, refl, sym, ap, ap₂, _∙_}
 use mathlib.Core.Bool.{true, cond}
 use mathlib.Core.List.{List, map}
+use native.Mathlib.Nat.{div-add-mod'}
 use native.Mathlib.Omega.{arith}
 use lib.ListN.{length, getD, length-map}
 use Rattle.std.specs.declared.option.Option.the-variants.{Some, None}
@@ -19,6 +20,10 @@ use Rattle.memory.proofs.Parts.{look-inside, look-outside}
 pub unpacked-packed : (bits : ℕ) (c : Cell) → c .value < 2 ^ bits → unpacked bits (packed bits c) ≡ c
 unpacked-packed bits c h =
     ap₂ (λ (v r : ℕ). record { value = v; round = r }) (mod-low (c .round) bits (c .value) h) (shr-high (c .round) bits (c .value) h)
+
+-- and a number from its cell
+pub packed-unpacked : (bits w : ℕ) → packed bits (unpacked bits w) ≡ w
+packed-unpacked bits w = div-add-mod' w (2 ^ bits)
 
 -- a tagged word that was made of a cell
 pub word-of : (c : Cell) (w : ℕ) → Some w ≡ cond (fits tagged c) (Some (packed 48 c)) None → (fits tagged c ≡ true) × (unpacked 48 w ≡ c)
