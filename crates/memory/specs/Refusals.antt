@@ -34,3 +34,8 @@ layerOf r = cond (leb (numberOf r) 8) Ring (cond (leb (numberOf r) 13) Memory Tr
 abbrev pub unless : {X : Type 0} → List (Bool × Refusal) → X → Result X Refusal
 unless [] x = Ok x
 unless (cause ∷ causes) x = cond (cause .0) (Err (cause .1)) (unless causes x)
+
+-- one judgement after another: the second answer, unless the first refuses
+abbrev pub andThen : {X Y : Type 0} → Result X Refusal → Result Y Refusal → Result Y Refusal
+andThen (Ok x) second = second
+andThen (Err cause) second = Err cause

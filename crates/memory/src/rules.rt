@@ -80,3 +80,14 @@ pub trait Memory {
         ensures after { λ _. ⌜ cells (now (self .exit)) ≡ cleared (cells (now (self .entry))) start count ⌝ }
         ensures apart { λ _. ⌜ frame (now (self .exit)) ≡ frame (now (self .entry)) ⌝ };
 }
+
+// Clears the whole of a memory, and answers its size.
+pub fn clear_all<M: Memory>(memory: &mut M) -> usize
+    ensures size { λ r. ⌜ r ≡ length (cells (now (memory .entry))) ⌝ }
+    ensures after { λ _. ⌜ cells (now (memory .exit)) ≡ cleared (cells (now (memory .entry))) 0 (length (cells (now (memory .entry)))) ⌝ }
+    ensures apart { λ _. ⌜ frame (now (memory .exit)) ≡ frame (now (memory .entry)) ⌝ }
+{
+    let size = memory.size();
+    memory.clear(0, size);
+    size
+}

@@ -1,0 +1,3 @@
+// The trace of a ring's dealings: its head, and the lines that are printed of it.
+pub mod head;
+pub mod lines;
