@@ -40,9 +40,6 @@ look-windowed a k cs i h =
       | inr q ↦ look-outside (windowed a k cs) i (omega arith) ∙ sym (look-outside cs (a + i) q)
     ]
 
-pub look-past : (a k : ℕ) (cs : List Cell) (i : ℕ) → k ≤ i → lookAt (windowed a k cs) i ≡ None
-look-past a k cs i h = look-outside (windowed a k cs) i (let l = length-windowed a k cs in omega arith)
-
 take-set-lt : {X : Type 0} (k : ℕ) (xs : List X) (i : ℕ) (y : X) → i < k → take k (set xs i y) ≡ set (take k xs) i y
 take-set-lt zero xs i y h = absurd (omega arith)
 take-set-lt (suc k) [] i y h = refl
@@ -113,23 +110,23 @@ overwritten-past x (y ∷ ys) zero n h = absurd (omega arith)
 overwritten-past x (y ∷ ys) (suc s) n h = ap (λ t. y ∷ t) (overwritten-past x ys s n (omega arith))
 
 -- a part of a window and the same cells below: `skipped` and `many` are the start and the count, as far as they lie in the window
-module _ (a k : ℕ) (cs : List Cell) (start count skipped many : ℕ) (s : skipped ≡ min start k) (m : many ≡ min count (k - skipped)) where
+module _ (a k : ℕ) (cs : List Cell) (start count size skipped many : ℕ) (z : size ≡ length (windowed a k cs)) (s : skipped ≡ min start size) (m : many ≡ min count (size - skipped)) where
   clipped-clear : overwritten fresh (windowed a k cs) skipped many ≡ overwritten fresh (windowed a k cs) start count
-  clipped-clear =
-      let l = length-windowed a k cs in
-      elim (cases-lt start k) [
-        | inl p ↦
-            let e : skipped ≡ start = omega arith in
-            ap (λ (j : ℕ). overwritten fresh (windowed a k cs) j many) e ∙ elim (cases-lt count (k - start)) [
-              | inl q ↦ ap (λ (n : ℕ). overwritten fresh (windowed a k cs) start n) (let f : many ≡ count = omega arith in f)
-              | inr q ↦ overwritten-all fresh (windowed a k cs) start many count (omega arith) (omega arith)
-            ]
-        | inr p ↦ overwritten-past fresh (windowed a k cs) skipped many (omega arith) ∙ sym (overwritten-past fresh (windowed a k cs) start count (omega arith))
-      ]
+  clipped-clear = elim (cases-lt start size) [
+    | inl p ↦
+        let e : skipped ≡ start = omega arith in
+        ap (λ (j : ℕ). overwritten fresh (windowed a k cs) j many) e ∙ elim (cases-lt count (size - start)) [
+          | inl q ↦ ap (λ (n : ℕ). overwritten fresh (windowed a k cs) start n) (let f : many ≡ count = omega arith in f)
+          | inr q ↦ overwritten-all fresh (windowed a k cs) start many count (omega arith) (omega arith)
+        ]
+    | inr p ↦ overwritten-past fresh (windowed a k cs) skipped many (omega arith) ∙ sym (overwritten-past fresh (windowed a k cs) start count (omega arith))
+  ]
 
   pub same-part : SamePart a k cs start count (a + skipped) many
-  same-part = record {
-    inside = λ after q. ap (windowed a k) q ∙ ap (take k) (drop-overwritten fresh a cs skipped many) ∙ take-overwritten fresh k (drop a cs) skipped many ∙ clipped-clear;
-    before = λ after q. ap (take a) q ∙ take-before fresh a cs (a + skipped) many (omega arith);
-    behind = λ after q. ap (drop (a + k)) q ∙ drop-behind fresh (a + k) cs (a + skipped) many (omega arith);
-  }
+  same-part =
+      let l = length-windowed a k cs in
+      record {
+        inside = λ after q. ap (windowed a k) q ∙ ap (take k) (drop-overwritten fresh a cs skipped many) ∙ take-overwritten fresh k (drop a cs) skipped many ∙ clipped-clear;
+        before = λ after q. ap (take a) q ∙ take-before fresh a cs (a + skipped) many (omega arith);
+        behind = λ after q. ap (drop (a + k)) q ∙ drop-behind fresh (a + k) cs (a + skipped) many (omega arith);
+      }

@@ -43,9 +43,9 @@ exchanged limits cells i expected new = storedBy (exchangeAnswer limits cells i 
 abbrev pub cleared : List Cell → ℕ → ℕ → List Cell
 cleared cells start count = overwritten fresh cells start count
 
--- What a memory has besides its cells, which no call changes.
+-- What a memory has besides its cells: no call changes it. Each is reached by a reference, which has a name of its own in proofs; that the name stays tells the lender what it holds once the memory has ended.
 pub data Frame : Type 0 where
-  -- a lent slice, by the name of the lender's reference, with the bytes that belong to no cell
+  -- a lent slice: the reference's name, and the bytes that belong to no cell
   lent : ℕ → List ℕ → Frame
-  -- a part of a memory: its start and count, the cells before it, the cells behind it, and the frame of that memory
-  part : ℕ → ℕ → List Cell → List Cell → Frame → Frame
+  -- a part of a lent memory: the reference's name, the start and the count of the part, the cells before it and behind it, and that memory's own frame
+  part : ℕ → ℕ → ℕ → List Cell → List Cell → Frame → Frame

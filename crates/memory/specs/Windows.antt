@@ -19,9 +19,9 @@ use Rattle.memory.specs.Rules.{Frame, part, lookAt, exchanged, cleared}
 abbrev pub windowed : ℕ → ℕ → List Cell → List Cell
 windowed start count cells = take count (drop start cells)
 
--- what lies around them, in a memory of this frame
-abbrev pub framed : ℕ → ℕ → List Cell → Frame → Frame
-framed start count cells frame = part start count (take start cells) (drop (start + count) cells) frame
+-- what lies around them, in a memory of this frame that a reference of this name reaches
+abbrev pub framed : ℕ → ℕ → ℕ → List Cell → Frame → Frame
+framed name start count cells frame = part name start count (take start cells) (drop (start + count) cells) frame
 
 -- what aiming a window at a part of these cells answers
 abbrev pub aimed : ℕ → ℕ → List Cell → Result (Unit {0}) Refusal

@@ -1,5 +1,6 @@
 // A window: a part of a memory, which is a memory too.
-ghost use Prim.Native.Nat.{ℕ, _+_, _^_, _<_};
+ghost use denote.Ref.{name};
+ghost use Prim.Native.Nat.{ℕ, _-_, min};
 ghost use mathlib.Core.Path.{_≡_};
 ghost use mathlib.Core.Bool.{cond};
 ghost use mathlib.Core.List.{List};
@@ -13,27 +14,29 @@ use crate::refusals::Refusal;
 use crate::rules::Exchanged;
 use crate::rules::Memory;
 
-// The cells of a memory from `start` on, `count` of them. No call touches a cell outside.
-pub struct Window<M: Memory> {
-    below: M,
+// The cells of a lent memory from `start` on, `count` of them. No call touches a cell outside.
+#[derive(Drop)]
+pub struct Window<'a, M> {
+    below: &'a mut M,
     start: usize,
     count: usize,
-    ghost ends: { start + count < 2 ^ 64 },
 }
 
 // How many cells a window has on a memory of this size.
 fn clipped(start: usize, count: usize, size: usize) -> usize
-    ensures { λ r. ⌜ ((cells : List Cell) → length cells ≡ size → r ≡ length (windowed start count cells)) ⌝ }
+    ensures value { λ r. ⌜ r ≡ min count (size - start) ⌝ }
+    ensures cells { λ r. ⌜ ((cells : List Cell) → length cells ≡ size → r ≡ length (windowed start count cells)) ⌝ }
 {
     count.min(size.saturating_sub(start))
 }
 
-impl<M: Memory> Window<M> {
+impl<'a, M: Memory> Window<'a, M> {
     // A window on the whole of a memory.
-    pub fn over(below: M) -> Window<M>
-        ensures below { λ r. ⌜ r .below ≡ below ⌝ }
+    pub fn over(below: &'a mut M) -> Window<'a, M>
+        ensures held { λ r. ⌜ now (r .below) ≡ now (below .entry) ⌝ }
+        ensures lender { λ r. ⌜ name (r .below) ≡ name (below .entry) ⌝ }
         ensures start { λ r. ⌜ r .start ≡ 0 ⌝ }
-        ensures count { λ r. ⌜ r .count ≡ length (M·Memory .cells below) ⌝ }
+        ensures count { λ r. ⌜ r .count ≡ length (M·Memory .cells (now (below .entry))) ⌝ }
     {
         let count = below.size();
         Window {
@@ -43,22 +46,11 @@ impl<M: Memory> Window<M> {
         }
     }
 
-    // The memory below.
-    pub fn into_below(self) -> M
-        ensures { λ r. ⌜ r ≡ self .below ⌝ }
-    {
-        let Window {
-            below,
-            start: _,
-            count: _,
-        } = self;
-        below
-    }
-
     // Aims the window at the cells from `start` on, `count` of them.
     pub fn aim(&mut self, start: usize, count: usize) -> Result<(), Refusal>
-        ensures answer { λ r. ⌜ r ≡ aimed start count (M·Memory .cells (now (self .entry) .below)) ⌝ }
-        ensures below { λ _. ⌜ now (self .exit) .below ≡ now (self .entry) .below ⌝ }
+        ensures answer { λ r. ⌜ r ≡ aimed start count (M·Memory .cells (now (now (self .entry) .below))) ⌝ }
+        ensures held { λ _. ⌜ now (now (self .exit) .below) ≡ now (now (self .entry) .below) ⌝ }
+        ensures lender { λ _. ⌜ name (now (self .exit) .below) ≡ name (now (self .entry) .below) ⌝ }
         ensures start { λ r. ⌜ now (self .exit) .start ≡ cond (isOk r) start (now (self .entry) .start) ⌝ }
         ensures count { λ r. ⌜ now (self .exit) .count ≡ cond (isOk r) count (now (self .entry) .count) ⌝ }
     {
@@ -73,9 +65,10 @@ impl<M: Memory> Window<M> {
 
     // The index below of an index of the window; none outside.
     fn reach(&self, at: usize) -> Option<usize>
-        ensures { λ r. ⌜ Reaches (now (self .entry) .start) (now (self .entry) .count) (M·Memory .cells (now (self .entry) .below)) at r ⌝ }
+        ensures { λ r. ⌜ Reaches (now (self .entry) .start) (now (self .entry) .count) (M·Memory .cells (now (now (self .entry) .below))) at r ⌝ }
     {
-        if at < self.count {
+        let size = clipped(self.start, self.count, self.below.size());
+        if at < size {
             Some(self.start + at)
         } else {
             None
@@ -84,23 +77,24 @@ impl<M: Memory> Window<M> {
 
     // The start and count below of a start and count of the window, as far as they lie in it.
     fn cover(&self, start: usize, count: usize) -> (usize, usize)
-        ensures { λ r. ⌜ SamePart (now (self .entry) .start) (now (self .entry) .count) (M·Memory .cells (now (self .entry) .below)) start count (r .0) (r .1) ⌝ }
+        ensures { λ r. ⌜ SamePart (now (self .entry) .start) (now (self .entry) .count) (M·Memory .cells (now (now (self .entry) .below))) start count (r .0) (r .1) ⌝ }
     {
-        let skipped = start.min(self.count);
-        (self.start + skipped, count.min(self.count - skipped))
+        let size = clipped(self.start, self.count, self.below.size());
+        let skipped = start.min(size);
+        (self.start + skipped, count.min(size - skipped))
     }
 }
 
-pub impl<M: Memory> Memory for Window<M> as WindowMemory {
+pub impl<'a, M: Memory> Memory for Window<'a, M> as WindowMemory {
     const LARGEST_VALUE: u64 = M::LARGEST_VALUE;
 
     const LAST_ROUND: u32 = M::LAST_ROUND;
 
-    ghost cells = { λ w. windowed (w .start) (w .count) (M·Memory .cells (w .below)) };
+    ghost cells = { λ w. windowed (w .start) (w .count) (M·Memory .cells (w .below .now)) };
 
     ghost bounds = { M·Memory .bounds };
 
-    ghost frame = { λ w. framed (w .start) (w .count) (M·Memory .cells (w .below)) (M·Memory .frame (w .below)) };
+    ghost frame = { λ w. framed (w .below .name) (w .start) (w .count) (M·Memory .cells (w .below .now)) (M·Memory .frame (w .below .now)) };
 
     fn limits(&self) -> Limits {
         self.below.limits()
