@@ -7,5 +7,7 @@ mod rows;
 pub mod rules;
 pub mod sizes;
 pub mod tagged;
+#[cfg(test)]
+mod tests;
 pub mod window;
 pub mod words;

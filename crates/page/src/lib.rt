@@ -3,3 +3,5 @@ mod bytes;
 pub mod check;
 pub mod layout;
 pub mod page;
+#[cfg(test)]
+mod tests;
