@@ -166,6 +166,14 @@ round-trips bs small =
       recovered = λ cs a w e. rw (← e) (read-written cs a w);
     }
 
+all-fresh : (n : ℕ) → All (Within tagged) (replicate n fresh)
+all-fresh zero = tt
+all-fresh (suc n) = ((omega arith, omega arith), all-fresh n)
+
+-- the page of cleared cells is read as cleared cells
+pub fresh-cells : (s : ℕ) → ringSize s ≡ true → pageCells (pageOf (replicate s fresh)) ≡ replicate s fresh
+fresh-cells s h = read-written (replicate s fresh) (rw (length-replicate s fresh) (decides-ring-size s .0 h)) (all-fresh s)
+
 -- cleared cells are zeros
 zeros : (n : ℕ) → joined cellBytes (replicate n fresh) ≡ replicate (8 * n) 0
 zeros zero = refl

@@ -1,11 +1,12 @@
 // Laying out a page.
 ghost use Prim.Native.Nat.{_+_, _*_, _≤_};
 ghost use mathlib.Core.Path.{_≡_};
-ghost use mathlib.Core.Bool.{cond};
+ghost use mathlib.Core.Bool.{true, cond};
 ghost use lib.ListN.{length, replicate};
 ghost use Rattle.std.specs.Results.{isOk};
 ghost use Rattle.memory.specs.Cells.{fresh};
-ghost use Rattle.page.specs.Pages.{header, pageOf, laidOut};
+ghost use Rattle.memory.specs.Sizes.{ringSize};
+ghost use Rattle.page.specs.Pages.{header, pageOf, pageCells, laidOut};
 use crate::check::check_size;
 use memory::refusals::Refusal;
 
@@ -30,8 +31,9 @@ fn head_of(size: usize) -> [u8; 8]
 
 // Writes the head and as many cleared cells.
 fn write_page(bytes: &mut [u8], size: usize)
-    requires { ⌜ size ≤ 4096 ⌝ ∗ ⌜ length (now bytes) ≡ 8 + 8 * size ⌝ }
-    ensures { λ _. ⌜ now (bytes .exit) ≡ pageOf (replicate size fresh) ⌝ }
+    requires { ⌜ ringSize size ≡ true ⌝ ∗ ⌜ length (now bytes) ≡ 8 + 8 * size ⌝ }
+    ensures bytes { λ _. ⌜ now (bytes .exit) ≡ pageOf (replicate size fresh) ⌝ }
+    ensures cells { λ _. ⌜ pageCells (now (bytes .exit)) ≡ replicate size fresh ⌝ }
 {
     let head = head_of(size);
     bytes[0..8].copy_from_slice(&head);
@@ -43,6 +45,7 @@ fn write_page(bytes: &mut [u8], size: usize)
 pub fn lay_out(bytes: &mut [u8], size: usize) -> Result<(), Refusal>
     ensures answer { λ r. ⌜ r ≡ laidOut (length (now (bytes .entry))) size ⌝ }
     ensures after { λ r. ⌜ now (bytes .exit) ≡ cond (isOk r) (pageOf (replicate size fresh)) (now (bytes .entry)) ⌝ }
+    ensures cells { λ r. ⌜ (isOk r ≡ true → pageCells (now (bytes .exit)) ≡ replicate size fresh) ⌝ }
 {
     if bytes.len() < 8 {
         return Err(Refusal::PageTooShort);

@@ -1,4 +1,15 @@
 // Replays a trace from standard input: judges its head, makes the memory that it asks for, and prints the first line.
+ghost use mathlib.Core.Path.{_≡_};
+ghost use mathlib.Core.Bool.{true};
+ghost use Rattle.std.specs.Of.String.{string-bytes};
+ghost use Rattle.std.specs.Results.{Cases};
+ghost use Rattle.std.specs.Vec.{made};
+ghost use Rattle.std.specs.declared.result.Result.the-variants.{Err};
+ghost use Rattle.memory.specs.Sizes.{ringSize};
+ghost use Rattle.replay.specs.declared.Stop.the-variants.{Refused, OutOfMemory};
+ghost use Rattle.replay.specs.Stops.{RefusedWith};
+ghost use Rattle.trace.specs.Heads.{headOf};
+ghost use Rattle.trace.specs.Lines.{openingLine};
 use memory::cells::Cell;
 use memory::records::Records;
 use memory::records::RecordsMemory;
@@ -30,19 +41,26 @@ enum Stop {
 }
 
 impl From<Refusal> for Stop as StopFromRefusal {
+    ghost converts = { λ refusal stop. stop ≡ Refused refusal };
+
     fn from(refusal: Refusal) -> Stop {
         Stop::Refused(refusal)
     }
 }
 
 impl From<AllocError> for Stop as StopFromAllocError {
+    ghost converts = { λ error stop. stop ≡ OutOfMemory error };
+
     fn from(error: AllocError) -> Stop {
         Stop::OutOfMemory(error)
     }
 }
 
-// Makes the memory that a head asks for, cleared, and answers its number of cells.
-fn make_memory(heap: Global, head: Head) -> Result<usize, Stop> {
+// Makes the memory that a head asks for, cleared, and answers its number of cells. Only want of memory stops it.
+fn make_memory(heap: Global, head: Head) -> Result<usize, Stop>
+    requires { ⌜ ringSize (head .size) ≡ true ⌝ }
+    ensures { λ r. ⌜ Cases r (λ n. n ≡ head .size) (RefusedWith (λ _. ⊥)) ⌝ }
+{
     let size = head.size as usize;
     match head.kind {
         Kind::Records => {
@@ -55,27 +73,37 @@ fn make_memory(heap: Global, head: Head) -> Result<usize, Stop> {
         }
         Kind::Page => {
             let mut bytes = vec![in heap; 0u8; 8 + 8 * size]?;
-            lay_out(bytes.as_mut_slice(), size)?;
-            Ok(clear_all(&mut Page::over(bytes.as_mut_slice())))
+            let page = bytes.as_mut_slice();
+            lay_out(page, size)?;
+            Ok(clear_all(&mut Page::over(page)))
         }
     }
 }
 
-// The first line of a trace.
-fn opening(heap: Global, trace: &[u8]) -> Result<String, Stop> {
+// The first line of a trace, or why it has none.
+fn opening(heap: Global, trace: &[u8]) -> Result<String, Stop>
+    ensures { λ r. ⌜ Cases r (λ s. string-bytes s ≡ openingLine (now (trace .entry))) (RefusedWith (λ e. headOf (now (trace .entry)) ≡ Err e)) ⌝ }
+{
     let head = read_head(trace)?;
     let size = make_memory(heap, head)?;
     Ok(ring_line(heap, size, head.kind)?)
+}
+
+// The line that is printed for a trace.
+fn printed(heap: Global, trace: &[u8]) -> Result<String, AllocError>
+    ensures { λ r. ⌜ made r (λ s. string-bytes s ≡ openingLine (now (trace .entry))) ⌝ }
+{
+    match opening(heap, trace) {
+        Ok(line) => Ok(line),
+        Err(Stop::Refused(refusal)) => fault_line(heap, refusal.number(), refusal.place()),
+        Err(Stop::OutOfMemory(error)) => Err(error),
+    }
 }
 
 fn main(rt: LibcRuntime) -> io::Result<()> {
     let heap = rt.alloc();
     let mut trace = Vec::new(heap);
     rt.stdin().take(READ_AT_MOST).read_to_end(&mut trace)?;
-    let line = match opening(heap, trace.as_slice()) {
-        Ok(line) => line,
-        Err(Stop::Refused(refusal)) => fault_line(heap, refusal.number(), refusal.place())?,
-        Err(Stop::OutOfMemory(error)) => return Err(error.into()),
-    };
+    let line = printed(heap, trace.as_slice())?;
     println!(rt, "{line}")
 }

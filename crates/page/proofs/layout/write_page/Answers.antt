@@ -5,7 +5,8 @@ use native.Mathlib.Omega.{arith}
 use borrow.Rule.Slice.PartMut.{postOf}
 use lib.ListN.{length}
 use Rattle.std.proofs.shelf.Lists.{length-append, length-drop, take-at}
-use Rattle.page.proofs.RoundTrip.{laid-out}
+use Rattle.page.specs.Pages.{pageCells}
+use Rattle.page.proofs.RoundTrip.{laid-out, fresh-cells}
 use Rattle.page.proofs.layout.write_page.Needs as need
 
 pub returns : need.returns
@@ -16,4 +17,5 @@ returns c =
     let l8 : length h ≡ 8 = ap length e in
     let xs = h ++ postOf 0 8 bs in
     let l : length xs ≡ 8 + 8 * c .args .size = omega (arith, length-append h (postOf 0 8 bs), length-drop 8 bs) in
-    laid-out xs (c .fill .last .self) (c .args .size) l (take-at h (postOf 0 8 bs) 8 l8 ∙ e) (c .fill .ensures .after (λ y q. q))
+    let page = laid-out xs (c .fill .last .self) (c .args .size) l (take-at h (postOf 0 8 bs) 8 l8 ∙ e) (c .fill .ensures .after (λ y q. q)) in
+    record { bytes = page; cells = ap pageCells page ∙ fresh-cells (c .args .size) (c .pre .0) }
