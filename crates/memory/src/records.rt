@@ -59,7 +59,7 @@ pub impl<'a> Memory for Records<'a> as RecordsMemory {
     }
 
     fn look(&self, at: usize) -> Option<Cell> {
-        if at < self.records.len() {
+        if at < self.size() {
             Some(read(self.records[at]))
         } else {
             None

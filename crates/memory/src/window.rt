@@ -1,6 +1,6 @@
 // A window: a part of a memory, which is a memory too.
 ghost use denote.Ref.{name};
-ghost use Prim.Native.Nat.{ℕ, _-_, min};
+ghost use Prim.Native.Nat.{ℕ, _+_};
 ghost use mathlib.Core.Path.{_≡_};
 ghost use mathlib.Core.Bool.{cond};
 ghost use mathlib.Core.List.{List};
@@ -20,14 +20,6 @@ pub struct Window<'a, M> {
     below: &'a mut M,
     start: usize,
     count: usize,
-}
-
-// How many cells a window has on a memory of this size.
-fn clipped(start: usize, count: usize, size: usize) -> usize
-    ensures value { λ r. ⌜ r ≡ min count (size - start) ⌝ }
-    ensures cells { λ r. ⌜ ((cells : List Cell) → length cells ≡ size → r ≡ length (windowed start count cells)) ⌝ }
-{
-    count.min(size.saturating_sub(start))
 }
 
 impl<'a, M: Memory> Window<'a, M> {
@@ -63,12 +55,19 @@ impl<'a, M: Memory> Window<'a, M> {
         Ok(())
     }
 
+    // The index below at which the window ends; it is clipped to the memory below.
+    fn end(&self) -> usize
+        ensures { λ r. ⌜ r ≡ now (self .entry) .start + length (windowed (now (self .entry) .start) (now (self .entry) .count) (M·Memory .cells (now (now (self .entry) .below)))) ⌝ }
+    {
+        self.start + self.count.min(self.below.size().saturating_sub(self.start))
+    }
+
     // The index below of an index of the window; none outside.
     fn reach(&self, at: usize) -> Option<usize>
         ensures { λ r. ⌜ Reaches (now (self .entry) .start) (now (self .entry) .count) (M·Memory .cells (now (now (self .entry) .below))) at r ⌝ }
     {
-        let size = clipped(self.start, self.count, self.below.size());
-        if at < size {
+        let end = self.end();
+        if at < end - self.start {
             Some(self.start + at)
         } else {
             None
@@ -79,9 +78,9 @@ impl<'a, M: Memory> Window<'a, M> {
     fn cover(&self, start: usize, count: usize) -> (usize, usize)
         ensures { λ r. ⌜ SamePart (now (self .entry) .start) (now (self .entry) .count) (M·Memory .cells (now (now (self .entry) .below))) start count (r .0) (r .1) ⌝ }
     {
-        let size = clipped(self.start, self.count, self.below.size());
-        let skipped = start.min(size);
-        (self.start + skipped, count.min(size - skipped))
+        let end = self.end();
+        let first = self.start + start.min(end - self.start);
+        (first, count.min(end - first))
     }
 }
 
@@ -101,19 +100,19 @@ pub impl<'a, M: Memory> Memory for Window<'a, M> as WindowMemory {
     }
 
     fn size(&self) -> usize {
-        clipped(self.start, self.count, self.below.size())
+        self.end() - self.start
     }
 
     fn look(&self, at: usize) -> Option<Cell> {
         match self.reach(at) {
-            Some(at) => self.below.look(at),
+            Some(place) => self.below.look(place),
             None => None,
         }
     }
 
     fn exchange(&mut self, at: usize, expected: Cell, new: Cell) -> Exchanged {
         match self.reach(at) {
-            Some(at) => self.below.exchange(at, expected, new),
+            Some(place) => self.below.exchange(place, expected, new),
             None => Exchanged::NoCell,
         }
     }
