@@ -25,13 +25,9 @@ unpacked-packed bits c h =
 pub packed-unpacked : (bits w : ℕ) → packed bits (unpacked bits w) ≡ w
 packed-unpacked bits w = div-add-mod' w (2 ^ bits)
 
--- a tagged word that was made of a cell
-pub word-of : (c : Cell) (w : ℕ) → Some w ≡ cond (fits tagged c) (Some (packed 48 c)) None → (fits tagged c ≡ true) × (unpacked 48 w ≡ c)
-word-of c w e =
-    let f : fits tagged c ≡ true = grind (arith, tells) in
-    let q : w ≡ packed 48 c = grind (arith, tells) in
-    let v : c .value < 2 ^ 48 = grind (arith, tells) in
-    (f, ap (unpacked 48) q ∙ unpacked-packed 48 c v)
+-- a cell that has a tagged word fits one
+pub fits-from-word : (c : Cell) (w : ℕ) → Some w ≡ cond (fits tagged c) (Some (packed 48 c)) None → fits tagged c ≡ true
+fits-from-word c w e = grind (arith, tells)
 
 module _ (f : ℕ → Cell) (ws : List ℕ) (i : ℕ) where
   pub look-row : i < length ws → Some (f (getD ws i 0)) ≡ lookAt (map f ws) i

@@ -1,8 +1,8 @@
 -- A part of a list of cells, under the cell rules.
 use Prim.Native.Nat.{ℕ, zero, suc, _+_, _-_, _<_, _≤_, min}
-use mathlib.Core.Path.{_≡_, refl, sym, ap, _∙_}
+use mathlib.Core.Path.{_≡_, refl, sym, ap, ap₂, _∙_}
 use mathlib.Core.Bool.{cond}
-use mathlib.Core.List.{List, [], _∷_}
+use mathlib.Core.List.{List, [], _∷_, _++_}
 use mathlib.Core.Logic.{_⊎_, inl, inr}
 use native.Mathlib.Omega.{arith}
 use native.Mathlib.Nat.{zero-add, suc-add}
@@ -11,15 +11,15 @@ use lib.ListN.{length, set, getD, take, drop}
 use Rattle.std.specs.declared.option.Option.{Option}
 use Rattle.std.specs.declared.option.Option.the-variants.{Some, None}
 use Rattle.std.proofs.shelf.Tests.{cases-lt, cond-true, cond-false, lt-ltb, le-ltb}
-use Rattle.std.proofs.shelf.Lists.{length-take, length-drop, getD-take, getD-drop, take-set-le, drop-set-lt, drop-set-add}
+use Rattle.std.proofs.shelf.Lists.{length-take, length-drop, getD-take, getD-drop, take-set-le, drop-set-lt, drop-set-add, drop-drop, take-append-drop}
 use Rattle.memory.specs.declared.cells.Cell.{Cell}
 use Rattle.memory.specs.declared.cells.Limits.{Limits}
 use Rattle.memory.specs.declared.rules.Exchanged.{Exchanged}
 use Rattle.memory.specs.declared.rules.Exchanged.the-variants.{Done, Differs, Unfit, NoCell}
 use Rattle.memory.specs.Cells.{fresh}
 use Rattle.memory.specs.Rows.{overwritten}
-use Rattle.memory.specs.Rules.{lookAt, answerAt, exchangeAnswer, storedBy, exchanged, cleared}
-use Rattle.memory.specs.Windows.{windowed, SamePlace, SamePart}
+use Rattle.memory.specs.Rules.{lookAt, answerAt, exchangeAnswer, storedBy, exchanged, cleared, Frame}
+use Rattle.memory.specs.Windows.{windowed, framed, SamePlace, SamePart}
 use Rattle.memory.proofs.Overwriting.{overwritten-all}
 
 -- a look inside the list and outside
@@ -130,3 +130,33 @@ module _ (a k : ℕ) (cs : List Cell) (start count size skipped many : ℕ) (z :
         before = λ after q. ap (take a) q ∙ take-before fresh a cs (a + skipped) many (omega arith);
         behind = λ after q. ap (drop (a + k)) q ∙ drop-behind fresh (a + k) cs (a + skipped) many (omega arith);
       }
+
+-- a list is its window between what lies on either side
+around : (a k : ℕ) (cs : List Cell) → take a cs ++ (windowed a k cs ++ drop (a + k) cs) ≡ cs
+around a k cs =
+    ap (λ (t : List Cell). take a cs ++ (windowed a k cs ++ t)) (sym (drop-drop k a cs))
+    ∙ ap (λ (t : List Cell). take a cs ++ t) (take-append-drop k (drop a cs)) ∙ take-append-drop a cs
+
+-- what a call on a window leaves of the memory below: the window's new cells between what lay on either side
+pub whole-after : (name a k : ℕ) (cs : List Cell) (frame : Frame) (name′ a′ k′ : ℕ) (cs′ : List Cell) (frame′ : Frame) (new : List Cell)
+    → framed name′ a′ k′ cs′ frame′ ≡ framed name a k cs frame → windowed a′ k′ cs′ ≡ new → cs′ ≡ take a cs ++ (new ++ drop (a + k) cs)
+whole-after name a k cs frame name′ a′ k′ cs′ frame′ new e n =
+    let before : take a′ cs′ ≡ take a cs = cc in
+    let behind : drop (a′ + k′) cs′ ≡ drop (a + k) cs = cc in
+    sym (around a′ k′ cs′) ∙ ap₂ (λ (p q : List Cell). p ++ (windowed a′ k′ cs′ ++ q)) before behind ∙ ap (λ (t : List Cell). take a cs ++ (t ++ drop (a + k) cs)) n
+
+-- a part that is cleared, seen from a window that it fills
+pub whole-cleared : (a k : ℕ) (cs : List Cell) → a + k ≤ length cs → take a cs ++ (cleared (windowed a k cs) 0 (length (windowed a k cs)) ++ drop (a + k) cs) ≡ cleared cs a k
+whole-cleared a k cs h =
+    let size = length (windowed a k cs) in
+    let l : size ≡ k = length-windowed a k cs ∙ (let e : min k (length cs - a) ≡ k = omega arith in e) in
+    let z : a + 0 ≡ a = omega arith in
+    let s : 0 ≡ min 0 size = omega arith in
+    let m : k ≡ min k (size - 0) = omega arith in
+    let same = same-part a k cs 0 k size 0 k refl s m in
+    let all = ap (λ (j : ℕ). cleared cs j k) z in
+    let e = ap (λ (j : ℕ). cleared (windowed a k cs) 0 j) l in
+    sym (
+    sym (around a k (cleared cs a k))
+    ∙ ap₂ (λ (p q : List Cell). p ++ (windowed a k (cleared cs a k) ++ q)) (same .before (cleared cs a k) (sym all)) (same .behind (cleared cs a k) (sym all))
+    ∙ ap (λ (t : List Cell). take a cs ++ (t ++ drop (a + k) cs)) (same .inside (cleared cs a k) (sym all) ∙ sym e))

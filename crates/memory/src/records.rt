@@ -18,7 +18,7 @@ pub struct Records<'a> {
     records: &'a mut [Cell],
 }
 
-// A record as it was read.
+// A record as it was read. What is passed by value is known to fit its types, and so to be within the limits.
 fn read(record: Cell) -> Cell
     ensures value { λ r. ⌜ r ≡ «record» ⌝ }
     ensures within { λ r. ⌜ Within (limited 18446744073709551615 4294967295) r ⌝ }

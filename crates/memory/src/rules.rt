@@ -28,7 +28,8 @@ pub enum Exchanged {
 }
 
 impl Exchanged {
-    // The answer of an exchange that finds this where it looks.
+    // The answer of an exchange that finds this where it looks. The second clause follows from the first, and is what a
+    // memory needs to know before it stores the new cell.
     pub fn answer(limits: Limits, found: Option<Cell>, expected: Cell, new: Cell) -> Exchanged
         ensures says { λ r. ⌜ r ≡ answerAt limits found expected new ⌝ }
         ensures done { λ r. ⌜ (r ≡ Done → (isSome found ≡ true) × (fits limits new ≡ true)) ⌝ }
@@ -44,18 +45,21 @@ impl Exchanged {
 
 // A memory means a list of cells. It names two constants, and every cell that it can hold is within them.
 pub trait Memory {
-    // The largest value.
+    // The largest value of a cell.
     const LARGEST_VALUE: u64;
-    // The last round.
+    // The last round of a cell.
     const LAST_ROUND: u32;
 
+    // The list of cells that the memory means.
     ghost cells: { Self → List Cell };
 
+    // The two constants, where a clause speaks of them.
     ghost bounds: { Limits };
 
+    // All that the memory was lent and that is no cell of it: no call changes it.
     ghost frame: { Self → Frame };
 
-    // The two constants, for code that is generic in the memory.
+    // The two constants, for code that is generic in the memory: a contract can say nothing of a constant itself.
     fn limits(&self) -> Limits
         ensures value { λ r. ⌜ r ≡ bounds ⌝ }
         ensures proper { λ r. ⌜ Proper r ⌝ };

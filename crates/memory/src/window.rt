@@ -55,7 +55,8 @@ impl<'a, M: Memory> Window<'a, M> {
         Ok(())
     }
 
-    // The index below at which the window ends; it is clipped to the memory below.
+    // The index below at which the window ends. It is clipped to the memory below: aiming has tested that, but the type
+    // does not say so.
     fn end(&self) -> usize
         ensures { λ r. ⌜ r ≡ now (self .entry) .start + length (windowed (now (self .entry) .start) (now (self .entry) .count) (M·Memory .cells (now (now (self .entry) .below)))) ⌝ }
     {

@@ -18,6 +18,7 @@ use crate::tagged::LIMITS;
 use crate::tagged::pack;
 use crate::tagged::unpack;
 
+// The rules are proved of these four functions over a row; the methods below only hand them on.
 fn count(words: &[u64]) -> usize
     ensures { λ r. ⌜ r ≡ length (wordCells (now (words .entry))) ⌝ }
 {
@@ -52,7 +53,7 @@ fn wipe(words: &mut [u64], start: usize, count: usize)
     overwrite(words, start, count, 0);
 }
 
-// A word is round × 2^48 + value.
+// One word a cell: round × 2^48 + value.
 #[derive(Drop)]
 pub struct Words<'a> {
     words: &'a mut [u64],

@@ -10,7 +10,8 @@ ghost use Rattle.page.specs.Pages.{checked, headCauses, sizeCauses, RoundTrips
 use memory::refusals::Refusal;
 use memory::sizes::is_ring_size;
 
-// The version of a page, its first byte; there must be bytes enough for a head.
+// The version of a page, its first byte; there must be bytes enough for a head. The two round trips of a page are stated
+// here, where the bytes are first read, and are handed up from here to the contract of `check_page`.
 fn version(bytes: &[u8]) -> Result<u8, Refusal>
     ensures answer { λ r. ⌜ r ≡ unless ((ltb (length (now (bytes .entry))) 8, PageTooShort) ∷ []) (field 0 1 (take 8 (now (bytes .entry)))) ⌝ }
     ensures trips { λ _. ⌜ RoundTrips (now (bytes .entry)) ⌝ }

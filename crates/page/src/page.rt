@@ -19,6 +19,7 @@ use memory::rules::ExchangedPartialEq;
 use memory::rules::Memory;
 use memory::tagged::LIMITS;
 
+// The rules are proved of these four functions over the bytes; the methods below only hand them on.
 // The number of cells: none where the check refuses the page.
 fn count(bytes: &[u8]) -> usize
     ensures value { λ r. ⌜ r ≡ length (pageCells (now (bytes .entry))) ⌝ }

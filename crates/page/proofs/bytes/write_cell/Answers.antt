@@ -15,7 +15,7 @@ returns-in-Some c =
     let bs = c .args .bytes .now in
     let at = c .args .from in
     let n : at + 8 - at ≡ 8 = omega arith in
-    let told = c .in-Some .ensures tt in
+    let told = c .in-Some .ensures tt .value in
     let w : c .in-Some .word ≡ packed 48 (c .args .cell) = grind (arith, tells) in
     let e = c .copy-from-slice .ensures .after ∙ c .to-be-bytes-table .ensures ∙ eight-bytes (c .in-Some .word) ∙ ap (bigEndian 8) w in
     ap₂ (λ (k : ℕ) (ys : List ℕ). take at bs ++ (ys ++ drop k (drop at bs))) n e ∙ ap (λ (zs : List ℕ). take at bs ++ (cellBytes (c .args .cell) ++ zs)) (drop-drop 8 at bs)
