@@ -26,12 +26,10 @@ use std::io;
 use std::io::Read;
 use trace::head::Head;
 use trace::head::Kind;
+use trace::head::MAX_LENGTH;
 use trace::head::read_head;
 use trace::lines::fault_line;
 use trace::lines::ring_line;
-
-// A trace has at most 65,536 bytes: one more is enough to see that it is too long.
-const READ_AT_MOST: u64 = 65_537;
 
 // Why a trace is not replayed.
 #[derive(Drop)]
@@ -103,7 +101,10 @@ fn printed(heap: Global, trace: &[u8]) -> Result<String, AllocError>
 fn main(rt: LibcRuntime) -> io::Result<()> {
     let heap = rt.alloc();
     let mut trace = Vec::new(heap);
-    rt.stdin().take(READ_AT_MOST).read_to_end(&mut trace)?;
+    // one byte more than a trace can have is enough to see that it is too long
+    rt.stdin()
+        .take(MAX_LENGTH as u64 + 1)
+        .read_to_end(&mut trace)?;
     let line = printed(heap, trace.as_slice())?;
     println!(rt, "{line}")
 }

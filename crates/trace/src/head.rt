@@ -11,6 +11,9 @@ ghost use Rattle.trace.specs.Heads.{kindNumber, kindOf, lengthCauses, headWith
 use memory::refusals::Refusal;
 use memory::sizes::is_ring_size;
 
+// The largest number of bytes of a trace.
+pub const MAX_LENGTH: usize = 65_536;
+
 // The make of a memory.
 #[derive(Clone, Copy, PartialEq, Eq, Debug)]
 pub enum Kind {
@@ -68,7 +71,7 @@ fn check_length(bytes: &[u8]) -> Result<(), Refusal>
     ensures { λ r. ⌜ r ≡ unless (lengthCauses (now (bytes .entry))) tt ⌝ }
 {
     let count = bytes.len();
-    if count < 8 || count > 65_536 || bytes[0] != 1 {
+    if count < 8 || count > MAX_LENGTH || bytes[0] != 1 {
         return Err(Refusal::TraceHead);
     }
     let length = u32::from_be_bytes([bytes[1], bytes[2], bytes[3], bytes[4]]);
