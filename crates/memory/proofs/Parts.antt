@@ -1,9 +1,8 @@
 -- A part of a list of cells, under the cell rules.
 use Prim.Native.Nat.{ℕ, zero, suc, _+_, _-_, _<_, _≤_, min}
 use mathlib.Core.Path.{_≡_, refl, sym, ap, ap₂, _∙_}
-use mathlib.Core.Bool.{cond}
 use mathlib.Core.List.{List, [], _∷_, _++_}
-use mathlib.Core.Logic.{_⊎_, inl, inr}
+use mathlib.Core.Logic.{inl, inr}
 use native.Mathlib.Omega.{arith}
 use native.Mathlib.Nat.{zero-add, suc-add}
 use lib.Dec.{ltb}
@@ -13,12 +12,11 @@ use Rattle.std.specs.declared.option.Option.the-variants.{Some, None}
 use Rattle.std.proofs.shelf.Tests.{cases-lt, cond-true, cond-false, lt-ltb, le-ltb}
 use Rattle.std.proofs.shelf.Lists.{length-take, length-drop, getD-take, getD-drop, take-set-le, drop-set-lt, drop-set-add, drop-drop, take-append-drop}
 use Rattle.memory.specs.declared.cells.Cell.{Cell}
-use Rattle.memory.specs.declared.cells.Limits.{Limits}
 use Rattle.memory.specs.declared.rules.Exchanged.{Exchanged}
 use Rattle.memory.specs.declared.rules.Exchanged.the-variants.{Done, Differs, Unfit, NoCell}
 use Rattle.memory.specs.Cells.{fresh}
 use Rattle.memory.specs.Rows.{overwritten}
-use Rattle.memory.specs.Rules.{lookAt, answerAt, exchangeAnswer, storedBy, exchanged, cleared, Frame}
+use Rattle.memory.specs.Rules.{lookAt, answerAt, exchangeAnswer, storedBy, cleared, Frame}
 use Rattle.memory.specs.Windows.{windowed, framed, SamePlace, SamePart}
 use Rattle.memory.proofs.Overwriting.{overwritten-all}
 

@@ -1,8 +1,7 @@
 // Paired records: a lent row of records, each a 64-bit value and a 32-bit round.
 ghost use denote.Ref.{name};
-ghost use Prim.Native.Nat.{ℕ};
 ghost use mathlib.Core.Path.{_≡_};
-ghost use mathlib.Core.List.{List, []};
+ghost use mathlib.Core.List.{[]};
 ghost use Rattle.memory.specs.Rules.{lent};
 ghost use Rattle.memory.specs.Cells.{limited, Within};
 use crate::cells::Cell;

@@ -1,5 +1,4 @@
 // Rows of any elements.
-ghost use Prim.Native.Nat.{ℕ};
 ghost use mathlib.Core.Path.{_≡_};
 ghost use Rattle.memory.specs.Rows.{overwritten};
 

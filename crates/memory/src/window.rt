@@ -1,9 +1,8 @@
 // A window: a part of a memory, which is a memory too.
 ghost use denote.Ref.{name};
-ghost use Prim.Native.Nat.{ℕ, _+_};
+ghost use Prim.Native.Nat.{_+_};
 ghost use mathlib.Core.Path.{_≡_};
 ghost use mathlib.Core.Bool.{cond};
-ghost use mathlib.Core.List.{List};
 ghost use lib.ListN.{length};
 ghost use Rattle.std.specs.Results.{isOk};
 ghost use Rattle.memory.specs.declared.cells.Cell.{Cell};

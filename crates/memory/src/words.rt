@@ -1,9 +1,8 @@
 // Tagged words: a lent row of 64-bit words, one word a cell.
 ghost use denote.Ref.{name};
-ghost use Prim.Native.Nat.{ℕ};
 ghost use mathlib.Core.Path.{_≡_};
 ghost use mathlib.Core.Bool.{cond};
-ghost use mathlib.Core.List.{List, []};
+ghost use mathlib.Core.List.{[]};
 ghost use lib.ListN.{length, set};
 ghost use Rattle.memory.specs.Cells.{fits, FoundWithin};
 ghost use Rattle.memory.specs.Packing.{tagged, wordCells};

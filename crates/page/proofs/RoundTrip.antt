@@ -1,10 +1,10 @@
 -- A page is read as one list of cells, which is written as that page; a list of cells is written as a page, from which it is read.
-use Prim.Native.Nat.{ℕ, zero, suc, _+_, _-_, _*_, _/_, _%_, _^_, _<_, _≤_}
+use Prim.Native.Nat.{ℕ, zero, suc, _+_, _-_, _*_, _^_, _<_, _≤_}
 use mathlib.Core.Path.{_≡_, refl, sym, ap, ap₂, _∙_}
 use mathlib.Core.Bool.{true, false}
 use mathlib.Core.List.{List, [], _∷_, _++_}
 use native.Mathlib.Omega.{arith}
-use borrow.Rule.Slice.PartMut.{putMid, postOf}
+use borrow.Rule.Slice.PartMut.{putMid}
 use lib.Dec.{eqb, ltb}
 use lib.ListN.{length, getD, take, drop, replicate}
 use Rattle.std.specs.Joined.{joined}
@@ -21,7 +21,7 @@ use Rattle.std.proofs.shelf.Ways.{tells}
 use Rattle.memory.specs.declared.cells.Cell.{Cell}
 use Rattle.memory.specs.declared.refusals.Refusal.{Refusal}
 use Rattle.memory.specs.Cells.{fresh, fits, Within}
-use Rattle.memory.specs.Packing.{packed, unpacked, tagged}
+use Rattle.memory.specs.Packing.{packed, tagged}
 use Rattle.memory.specs.Sizes.{ringSize, RingSize}
 use Rattle.memory.proofs.Packs.{packed-unpacked}
 use Rattle.memory.proofs.Powers.{decides-ring-size, size-bounds}

@@ -1,9 +1,8 @@
 // The memory that a page of bytes is.
 ghost use denote.Ref.{name};
-ghost use Prim.Native.Nat.{ℕ, _<_, _+_, _*_, _-_, _≤_};
+ghost use Prim.Native.Nat.{_<_, _+_, _*_, _-_, _≤_};
 ghost use mathlib.Core.Path.{_≡_};
 ghost use mathlib.Core.Bool.{true};
-ghost use mathlib.Core.List.{List};
 ghost use lib.ListN.{length, set};
 ghost use Rattle.memory.specs.Cells.{fits, FoundWithin};
 ghost use Rattle.memory.specs.Packing.{tagged};

@@ -1,7 +1,6 @@
-use mathlib.Core.Path.{_≡_, refl, ap, _∙_}
+use mathlib.Core.Path.{refl, ap, _∙_}
 use native.Mathlib.Omega.{arith}
 use lib.ListN.{length, length-map}
-use Rattle.std.specs.Results.{isOk}
 use Rattle.std.proofs.shelf.Lists.{length-replicate}
 use Rattle.memory.specs.Cells.{fresh}
 use Rattle.memory.specs.Packing.{unpacked}

@@ -1,5 +1,4 @@
 use mathlib.Core.Path.{sym, ap, _∙_}
-use mathlib.Core.Bool.{cond}
 use lib.ListN.{set, length-map}
 use Rattle.std.proofs.shelf.Lists.{map-set, set-past}
 use Rattle.std.proofs.shelf.Tests.{cond-true}
