@@ -12,7 +12,7 @@ use lib.Pow.{pow-mono}
 use Rattle.std.specs.Orderings.{Decides}
 use Rattle.std.proofs.shelf.Bits.{pow-pos, pow-below}
 use Rattle.std.proofs.shelf.Tests.{eq-eqb, eqb-true, le-leb, leb-true, and-from, and-parts, cases-eq, cases-lt}
-use Rattle.memory.specs.Sizes.{RingSize, ringSize}
+use Rattle.memory.specs.Sizes.{RingSize, isRingSize}
 
 ones-zero : ones 0 ≡ 0
 unfolding ones onesIn
@@ -72,16 +72,16 @@ size-bounds s a =
     (omega arith, omega arith)
 
 -- the test by the count of one bits decides whether a number is a power of two from 2 to 4,096
-pub decides-ring-size : (s : ℕ) → Decides (ringSize s) (RingSize s)
+pub decides-ring-size : (s : ℕ) → Decides (isRingSize s) (RingSize s)
 decides-ring-size s = (up, down)
   where
-    up : ringSize s ≡ true → RingSize s
+    up : isRingSize s ≡ true → RingSize s
     up h =
         let p = and-parts (eqb (ones s) 1) (leb 2 s && leb s 4096) h in
         let q = and-parts (leb 2 s) (leb s 4096) (p .1) in
         size-from-ones s (eqb-true (ones s) 1 (p .0)) (leb-true 2 s (q .0)) (leb-true s 4096 (q .1))
 
-    down : RingSize s → ringSize s ≡ true
+    down : RingSize s → isRingSize s ≡ true
     down a =
         let b = size-bounds s a in
         and-from _ _ (eq-eqb (ones s) 1 (ap ones (a .3) ∙ ones-power (a .0))) (and-from _ _ (le-leb 2 s (b .0)) (le-leb s 4096 (b .1)))

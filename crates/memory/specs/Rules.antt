@@ -36,8 +36,8 @@ storedBy Differs cells i new = cells
 storedBy Unfit cells i new = cells
 storedBy NoCell cells i new = cells
 
-abbrev pub exchanged : Limits → List Cell → ℕ → Cell → Cell → List Cell
-exchanged limits cells i expected new = storedBy (exchangeAnswer limits cells i expected new) cells i new
+abbrev pub afterExchange : Limits → List Cell → ℕ → Cell → Cell → List Cell
+afterExchange limits cells i expected new = storedBy (exchangeAnswer limits cells i expected new) cells i new
 
 -- the cells from `start` on, `count` of them, are empty at round 0
 abbrev pub cleared : List Cell → ℕ → ℕ → List Cell

@@ -10,5 +10,5 @@ abbrev pub RingSize : ℕ → Type 0
 RingSize s = (k : ℕ) × (1 ≤ k) × (k ≤ 12) × (s ≡ 2 ^ k)
 
 -- the same as a test, by the count of one bits
-abbrev pub ringSize : ℕ → Bool
-ringSize s = eqb (ones s) 1 && (leb 2 s && leb s 4096)
+abbrev pub isRingSize : ℕ → Bool
+isRingSize s = eqb (ones s) 1 && (leb 2 s && leb s 4096)

@@ -13,7 +13,7 @@ use Rattle.memory.specs.declared.cells.Cell.{Cell}
 use Rattle.memory.specs.declared.cells.Limits.{Limits}
 use Rattle.memory.specs.declared.refusals.Refusal.{Refusal}
 use Rattle.memory.specs.declared.refusals.Refusal.the-variants.{WindowOutside}
-use Rattle.memory.specs.Rules.{Frame, part, lookAt, exchanged, cleared}
+use Rattle.memory.specs.Rules.{Frame, part, lookAt, afterExchange, cleared}
 
 -- the cells from `start` on, `count` of them
 abbrev pub windowed : ℕ → ℕ → List Cell → List Cell
@@ -30,9 +30,9 @@ aimed start count cells = cond (leb 1 count && leb (start + count) (length cells
 -- index `at` of the window is index `below` of the cells: the window shows what lies there, and an exchange there is the exchange here and leaves what lies around
 pub record SamePlace (start count : ℕ) (cells : List Cell) (at below : ℕ) : Type 0 where
   pub shows : lookAt (windowed start count cells) at ≡ lookAt cells below
-  pub inside : (limits : Limits) (expected new : Cell) (after : List Cell) → after ≡ exchanged limits cells below expected new → windowed start count after ≡ exchanged limits (windowed start count cells) at expected new
-  pub before : (limits : Limits) (expected new : Cell) (after : List Cell) → after ≡ exchanged limits cells below expected new → take start after ≡ take start cells
-  pub behind : (limits : Limits) (expected new : Cell) (after : List Cell) → after ≡ exchanged limits cells below expected new → drop (start + count) after ≡ drop (start + count) cells
+  pub inside : (limits : Limits) (expected new : Cell) (after : List Cell) → after ≡ afterExchange limits cells below expected new → windowed start count after ≡ afterExchange limits (windowed start count cells) at expected new
+  pub before : (limits : Limits) (expected new : Cell) (after : List Cell) → after ≡ afterExchange limits cells below expected new → take start after ≡ take start cells
+  pub behind : (limits : Limits) (expected new : Cell) (after : List Cell) → after ≡ afterExchange limits cells below expected new → drop (start + count) after ≡ drop (start + count) cells
 
 abbrev pub Reaches : ℕ → ℕ → List Cell → ℕ → Option ℕ → Type 0
 Reaches start count cells at None = lookAt (windowed start count cells) at ≡ None

@@ -8,7 +8,7 @@ ghost use Rattle.memory.specs.declared.cells.Cell.{Cell};
 ghost use Rattle.memory.specs.declared.cells.Limits.{Limits};
 ghost use Rattle.memory.specs.declared.rules.Exchanged.the-variants.{Done};
 ghost use Rattle.memory.specs.Cells.{fits, Proper, FoundWithin};
-ghost use Rattle.memory.specs.Rules.{lookAt, answerAt, exchangeAnswer, exchanged, cleared, Frame};
+ghost use Rattle.memory.specs.Rules.{lookAt, answerAt, exchangeAnswer, afterExchange, cleared, Frame};
 use crate::cells::Cell;
 use crate::cells::CellPartialEq;
 use crate::cells::Limits;
@@ -75,7 +75,7 @@ pub trait Memory {
     // Puts a new cell in the place of the expected one, or says why not.
     fn exchange(&mut self, at: usize, expected: Cell, new: Cell) -> Exchanged
         ensures answer { λ r. ⌜ r ≡ exchangeAnswer bounds (cells (now (self .entry))) at expected new ⌝ }
-        ensures after { λ _. ⌜ cells (now (self .exit)) ≡ exchanged bounds (cells (now (self .entry))) at expected new ⌝ }
+        ensures after { λ _. ⌜ cells (now (self .exit)) ≡ afterExchange bounds (cells (now (self .entry))) at expected new ⌝ }
         ensures apart { λ _. ⌜ frame (now (self .exit)) ≡ frame (now (self .entry)) ⌝ };
 
     // Makes the cells from `start` on, `count` of them, empty at round 0; indices outside are skipped.

@@ -22,11 +22,11 @@ use Rattle.memory.specs.declared.cells.Cell.{Cell}
 use Rattle.memory.specs.declared.refusals.Refusal.{Refusal}
 use Rattle.memory.specs.Cells.{fresh, fits, Within}
 use Rattle.memory.specs.Packing.{packed, tagged}
-use Rattle.memory.specs.Sizes.{ringSize, RingSize}
+use Rattle.memory.specs.Sizes.{isRingSize, RingSize}
 use Rattle.memory.proofs.Packs.{packed-unpacked}
 use Rattle.memory.proofs.Powers.{decides-ring-size, size-bounds}
 use Rattle.page.specs.Bytes.{bigEndian, field, cellBytes, cellFrom}
-use Rattle.page.specs.Pages.{checkedHead, checked, header, pageOf, cellsIn, cellsBy, pageCells, RoundTrips}
+use Rattle.page.specs.Pages.{checkedHead, checked, header, pageOf, cellsIn, cellsBy, pageCells, othersBy, otherBytes, rewrittenBy, rewritten, RoundTrips}
 use Rattle.page.proofs.BigEndian.{length-bigEndian, bigEndian-number}
 use Rattle.page.proofs.PageCells.{accepted-length, accepted-count, length-cellsIn, cell-back}
 
@@ -81,7 +81,7 @@ module _ (bs : List ℕ) (n : ℕ) (e : checked bs ≡ Ok n) where
   accepted-last : field 7 1 (take 8 bs) ≡ 0
   accepted-last = grind (arith, tells)
 
-  accepted-power : ringSize n ≡ true
+  accepted-power : isRingSize n ≡ true
   accepted-power = grind (arith, tells)
 
   -- the head of an accepted page is written again
@@ -130,14 +130,14 @@ length-body [] = refl
 length-body (c ∷ cs) = length-append (cellBytes c) (joined cellBytes cs) ∙ (let e = length-bigEndian 8 (packed 48 c) in let r = length-body cs in omega arith)
 
 -- a head with the right fields is accepted
-fields-checked : (m n : ℕ) (hs : List ℕ) → m ≡ 8 + 8 * n → ringSize n ≡ true → field 0 1 hs ≡ 1 → field 1 4 hs ≡ m → field 5 2 hs ≡ n → field 7 1 hs ≡ 0 → checkedHead m hs ≡ Ok n
+fields-checked : (m n : ℕ) (hs : List ℕ) → m ≡ 8 + 8 * n → isRingSize n ≡ true → field 0 1 hs ≡ 1 → field 1 4 hs ≡ m → field 5 2 hs ≡ n → field 7 1 hs ≡ 0 → checkedHead m hs ≡ Ok n
 fields-checked m n hs l a v f s z =
-    let p : ringSize (field 5 2 hs) ≡ true = ap ringSize s ∙ a in
+    let p : isRingSize (field 5 2 hs) ≡ true = ap isRingSize s ∙ a in
     let long : ltb m 8 ≡ false = le-ltb m 8 (omega arith) in
     let length-fits : eqb m (8 + 8 * field 5 2 hs) ≡ true = eq-eqb _ _ (omega arith) in
     simp (long, eq-eqb _ _ v, eq-eqb _ _ f, p, length-fits, eq-eqb _ _ z) (ap Ok s)
 
-header-checked : (m n : ℕ) → m ≡ 8 + 8 * n → ringSize n ≡ true → n ≤ 4096 → checkedHead m (header n) ≡ Ok n
+header-checked : (m n : ℕ) → m ≡ 8 + 8 * n → isRingSize n ≡ true → n ≤ 4096 → checkedHead m (header n) ≡ Ok n
 header-checked m n l a h =
     let f : field 1 4 (header n) ≡ m = omega arith in
     let s : field 5 2 (header n) ≡ n = omega arith in
@@ -166,12 +166,37 @@ round-trips bs small =
       recovered = λ cs a w e. rw (← e) (read-written cs a w);
     }
 
+-- the cells of a page and the bytes that are part of no cell leave no byte open
+module _ (bs bs′ : List ℕ) (trips : RoundTrips bs) (trips′ : RoundTrips bs′) (long : length (pageCells bs′) ≡ length (pageCells bs)) (others : otherBytes bs′ ≡ otherBytes bs) where
+  accepted-fixed : (n : ℕ) (r : Result ℕ Refusal) → checked bs ≡ Ok n → checked bs′ ≡ r → bs′ ≡ rewritten bs (pageCells bs′)
+  accepted-fixed n (Ok m) e e′ = sym (trips′ .written (ap isOk e′)) ∙ ap (λ (r : Result ℕ Refusal). rewrittenBy r bs (pageCells bs′)) (sym e)
+  accepted-fixed n (Err x) e e′ =
+      let none : length (pageCells bs′) ≡ 0 = ap (λ (r : Result ℕ Refusal). length (cellsBy r bs′)) e′ in
+      let some = size-bounds (length (pageCells bs)) (trips .sized (ap isOk e)) .0 in
+      absurd (omega arith)
+
+  refused-fixed : (x : Refusal) (r : Result ℕ Refusal) → checked bs ≡ Err x → checked bs′ ≡ r → bs′ ≡ rewritten bs (pageCells bs′)
+  refused-fixed x (Ok m) e e′ =
+      let none : length (pageCells bs) ≡ 0 = ap (λ (r : Result ℕ Refusal). length (cellsBy r bs)) e in
+      let some = size-bounds (length (pageCells bs′)) (trips′ .sized (ap isOk e′)) .0 in
+      absurd (omega arith)
+  refused-fixed x (Err y) e e′ =
+      ap (λ (r : Result ℕ Refusal). othersBy r bs′) (sym e′) ∙ others ∙ ap (λ (r : Result ℕ Refusal). othersBy r bs) e
+      ∙ ap (λ (r : Result ℕ Refusal). rewrittenBy r bs (pageCells bs′)) (sym e)
+
+  fixed-by : (r : Result ℕ Refusal) → checked bs ≡ r → bs′ ≡ rewritten bs (pageCells bs′)
+  fixed-by (Ok n) e = accepted-fixed n (checked bs′) e refl
+  fixed-by (Err x) e = refused-fixed x (checked bs′) e refl
+
+  pub every-byte-fixed : bs′ ≡ rewritten bs (pageCells bs′)
+  every-byte-fixed = fixed-by (checked bs) refl
+
 all-fresh : (n : ℕ) → All (Within tagged) (replicate n fresh)
 all-fresh zero = tt
 all-fresh (suc n) = ((omega arith, omega arith), all-fresh n)
 
 -- the page of cleared cells is read as cleared cells
-pub fresh-cells : (s : ℕ) → ringSize s ≡ true → pageCells (pageOf (replicate s fresh)) ≡ replicate s fresh
+pub fresh-cells : (s : ℕ) → isRingSize s ≡ true → pageCells (pageOf (replicate s fresh)) ≡ replicate s fresh
 fresh-cells s h = read-written (replicate s fresh) (rw (length-replicate s fresh) (decides-ring-size s .0 h)) (all-fresh s)
 
 -- cleared cells are zeros

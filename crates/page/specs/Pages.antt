@@ -17,7 +17,7 @@ use Rattle.memory.specs.declared.refusals.Refusal.the-variants.{PageTooShort, P
 use Rattle.memory.specs.Cells.{Within}
 use Rattle.memory.specs.Packing.{tagged}
 use Rattle.memory.specs.Refusals.{unless}
-use Rattle.memory.specs.Sizes.{ringSize, RingSize}
+use Rattle.memory.specs.Sizes.{isRingSize, RingSize}
 use Rattle.page.specs.Bytes.{bigEndian, field, cellBytes, cellFrom}
 
 -- the head of a page of s cells
@@ -33,7 +33,7 @@ abbrev pub headCauses : ℕ → List ℕ → List (Bool × Refusal)
 headCauses n head = (ltb n 8, PageTooShort) ∷ (not (eqb (field 0 1 head) 1), PageVersion) ∷ (not (eqb (field 1 4 head) n), PageLength) ∷ []
 
 abbrev pub sizeCauses : ℕ → ℕ → List (Bool × Refusal)
-sizeCauses n s = (not (ringSize s), PageSize) ∷ (not (eqb n (8 + 8 * s)), PageSize) ∷ []
+sizeCauses n s = (not (isRingSize s), PageSize) ∷ (not (eqb n (8 + 8 * s)), PageSize) ∷ []
 
 abbrev pub pageCauses : ℕ → List ℕ → List (Bool × Refusal)
 pageCauses n head = headCauses n head ++ (sizeCauses n (field 5 2 head) ++ ((not (eqb (field 7 1 head) 0), PageSize) ∷ []))
@@ -77,3 +77,11 @@ pub record RoundTrips (bytes : List ℕ) : Type 0 where
   pub written : isOk (checked bytes) ≡ true → pageOf (pageCells bytes) ≡ bytes
   pub accepted : (cells : List Cell) → RingSize (length cells) → pageOf cells ≡ bytes → checked bytes ≡ Ok (length cells)
   pub recovered : (cells : List Cell) → RingSize (length cells) → All (Within tagged) cells → pageOf cells ≡ bytes → pageCells bytes ≡ cells
+
+-- these bytes with other cells in the place of their own: another page, or the same bytes where the check refuses them
+abbrev pub rewrittenBy : Result ℕ Refusal → List ℕ → List Cell → List ℕ
+rewrittenBy (Ok n) bytes cells = pageOf cells
+rewrittenBy (Err cause) bytes cells = bytes
+
+abbrev pub rewritten : List ℕ → List Cell → List ℕ
+rewritten bytes cells = rewrittenBy (checked bytes) bytes cells

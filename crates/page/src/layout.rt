@@ -5,7 +5,7 @@ ghost use mathlib.Core.Bool.{true, cond};
 ghost use lib.ListN.{length, replicate};
 ghost use Rattle.std.specs.Results.{isOk};
 ghost use Rattle.memory.specs.Cells.{fresh};
-ghost use Rattle.memory.specs.Sizes.{ringSize};
+ghost use Rattle.memory.specs.Sizes.{isRingSize};
 ghost use Rattle.page.specs.Pages.{header, pageOf, pageCells, laidOut};
 use crate::check::check_size;
 use memory::refusals::Refusal;
@@ -31,7 +31,7 @@ fn head_of(size: usize) -> [u8; 8]
 
 // Writes the head and as many cleared cells.
 fn write_page(bytes: &mut [u8], size: usize)
-    requires { ⌜ ringSize size ≡ true ⌝ ∗ ⌜ length (now bytes) ≡ 8 + 8 * size ⌝ }
+    requires { ⌜ isRingSize size ≡ true ⌝ ∗ ⌜ length (now bytes) ≡ 8 + 8 * size ⌝ }
     ensures bytes { λ _. ⌜ now (bytes .exit) ≡ pageOf (replicate size fresh) ⌝ }
     ensures cells { λ _. ⌜ pageCells (now (bytes .exit)) ≡ replicate size fresh ⌝ }
 {

@@ -1,4 +1,7 @@
-// Examples of a page: a cell in its bytes, and the check after each kind of damage.
+// Examples of a page: a cell in its bytes, the check after each kind of damage, and what a lender knows afterwards.
+ghost use mathlib.Core.Path.{_≡_};
+ghost use Rattle.memory.specs.Rules.{cleared};
+ghost use Rattle.page.specs.Pages.{pageCells, rewritten};
 use crate::check::check_page;
 use crate::layout::lay_out;
 use crate::page::Page;
@@ -62,4 +65,77 @@ fn a_page_is_laid_out_only_at_its_own_length() -> Result<(), Fail> {
     check_eq(lay_out(&mut bytes[0..7], 2), Err(Refusal::PageTooShort))?;
     check_eq(&bytes, &[9; 24])?;
     check_eq(Page::over(&mut bytes).size(), 0)
+}
+
+// Whoever lends a page knows every byte of it once the memory has ended.
+fn clear_cells(bytes: &mut [u8], start: usize, count: usize)
+    ensures { λ _. ⌜ now (bytes .exit) ≡ rewritten (now (bytes .entry)) (cleared (pageCells (now (bytes .entry))) start count) ⌝ }
+{
+    let _ = check_page(bytes);
+    let mut page = Page::over(bytes);
+    page.clear(start, count);
+    let _ = check_page(bytes);
+}
+
+#[test]
+fn a_lender_knows_every_byte() -> Result<(), Fail> {
+    let mut bytes = [
+        1,
+        0,
+        0,
+        0,
+        24,
+        0,
+        2,
+        0,
+        0,
+        3,
+        0,
+        0,
+        0,
+        0,
+        1,
+        2,
+        0,
+        3,
+        0,
+        0,
+        0,
+        0,
+        1,
+        2,
+    ];
+    clear_cells(&mut bytes, 1, 1);
+    check_eq(
+        &bytes,
+        &[
+            1,
+            0,
+            0,
+            0,
+            24,
+            0,
+            2,
+            0,
+            0,
+            3,
+            0,
+            0,
+            0,
+            0,
+            1,
+            2,
+            0,
+            0,
+            0,
+            0,
+            0,
+            0,
+            0,
+            0,
+        ],
+    )?;
+    bytes[0] = 2;
+    clear_cells(&mut bytes, 0, 2);
+    check_eq(bytes[15], 2)
 }

@@ -5,7 +5,7 @@ ghost use Rattle.std.specs.Of.String.{string-bytes};
 ghost use Rattle.std.specs.Results.{Cases};
 ghost use Rattle.std.specs.Vec.{made};
 ghost use Rattle.std.specs.declared.result.Result.the-variants.{Err};
-ghost use Rattle.memory.specs.Sizes.{ringSize};
+ghost use Rattle.memory.specs.Sizes.{isRingSize};
 ghost use Rattle.replay.specs.declared.Stop.the-variants.{Refused, OutOfMemory};
 ghost use Rattle.replay.specs.Stops.{RefusedWith};
 ghost use Rattle.trace.specs.Heads.{headOf};
@@ -56,7 +56,7 @@ impl From<AllocError> for Stop as StopFromAllocError {
 
 // Makes the memory that a head asks for, cleared, and answers its number of cells. Only want of memory stops it.
 fn make_memory(heap: Global, head: Head) -> Result<usize, Stop>
-    requires { ⌜ ringSize (head .size) ≡ true ⌝ }
+    requires { ⌜ isRingSize (head .size) ≡ true ⌝ }
     ensures { λ r. ⌜ Cases r (λ n. n ≡ head .size) (RefusedWith (λ _. ⊥)) ⌝ }
 {
     let size = head.size as usize;

@@ -12,7 +12,7 @@ use Rattle.std.specs.declared.result.Result.{Result}
 use Rattle.memory.specs.declared.refusals.Refusal.{Refusal}
 use Rattle.memory.specs.declared.refusals.Refusal.the-variants.{TraceHead}
 use Rattle.memory.specs.Refusals.{unless, andThen}
-use Rattle.memory.specs.Sizes.{ringSize}
+use Rattle.memory.specs.Sizes.{isRingSize}
 use Rattle.page.specs.Bytes.{field}
 use Rattle.trace.specs.declared.head.Head.{Head}
 use Rattle.trace.specs.declared.head.Kind.{Kind}
@@ -34,7 +34,7 @@ lengthCauses bytes =
 
 -- why no trace has such a memory: no kind has this number; this size is no power of two from 2 to 256
 abbrev pub memoryCauses : ℕ → ℕ → List (Bool × Refusal)
-memoryCauses kind size = (not (isSome (kindOf kind)), TraceHead) ∷ (not (leb size 256 && ringSize size), TraceHead) ∷ []
+memoryCauses kind size = (not (isSome (kindOf kind)), TraceHead) ∷ (not (leb size 256 && isRingSize size), TraceHead) ∷ []
 
 abbrev pub headWith : ℕ → ℕ → Result Head Refusal
 headWith kind size = unless (memoryCauses kind size) (record { kind = valueOr (kindOf kind) Records; size = size })

@@ -5,7 +5,7 @@ ghost use mathlib.Core.Bool.{true};
 ghost use lib.ListN.{length};
 ghost use Rattle.std.specs.Vec.{made};
 ghost use Rattle.memory.specs.Refusals.{unless};
-ghost use Rattle.memory.specs.Sizes.{ringSize};
+ghost use Rattle.memory.specs.Sizes.{isRingSize};
 ghost use Rattle.page.specs.Bytes.{field};
 ghost use Rattle.trace.specs.Heads.{kindNumber, kindOf, lengthCauses, headWith, headOf};
 use memory::refusals::Refusal;
@@ -57,7 +57,7 @@ impl Head {
     // The head of these two fields: a number of a kind, and a size that is a power of two from 2 to 256.
     fn from_fields(kind: u8, size: u16) -> Result<Head, Refusal>
         ensures answer { λ r. ⌜ r ≡ headWith kind size ⌝ }
-        ensures sized { λ r. ⌜ made r (λ head. ringSize (head .size) ≡ true) ⌝ }
+        ensures sized { λ r. ⌜ made r (λ head. isRingSize (head .size) ≡ true) ⌝ }
     {
         match Kind::from_number(kind) {
             Some(kind) if size <= 256 && is_ring_size(size as usize) => Ok(Head { kind, size }),
@@ -93,7 +93,7 @@ fn memory_fields(bytes: &[u8]) -> (u8, u16)
 // The head of a trace, from the bytes of the whole trace.
 pub fn read_head(bytes: &[u8]) -> Result<Head, Refusal>
     ensures answer { λ r. ⌜ r ≡ headOf (now (bytes .entry)) ⌝ }
-    ensures sized { λ r. ⌜ made r (λ head. ringSize (head .size) ≡ true) ⌝ }
+    ensures sized { λ r. ⌜ made r (λ head. isRingSize (head .size) ≡ true) ⌝ }
 {
     check_length(bytes)?;
     let (kind, size) = memory_fields(bytes);
