@@ -1,4 +1,4 @@
+pub mod Looks
 pub mod Overwriting
 pub mod Packs
-pub mod Parts
 pub mod Powers

@@ -1,20 +1,15 @@
 -- A cell in one number, and a row of such numbers as a list of cells.
-use Prim.Native.Nat.{ℕ, _^_, _<_, _≤_}
-use mathlib.Core.Path.{_≡_, sym, ap, ap₂, _∙_}
+use Prim.Native.Nat.{ℕ, _^_, _<_}
+use mathlib.Core.Path.{_≡_, ap₂}
 use mathlib.Core.Bool.{true, cond}
-use mathlib.Core.List.{List, map}
 use native.Mathlib.Nat.{div-add-mod'}
 use native.Mathlib.Omega.{arith}
-use lib.ListN.{length, getD, length-map}
 use Rattle.std.specs.declared.option.Option.the-variants.{Some, None}
 use Rattle.std.proofs.shelf.Bits.{mod-low, shr-high}
-use Rattle.std.proofs.shelf.Lists.{getD-map}
 use Rattle.std.proofs.shelf.Ways.{tells}
 use Rattle.memory.specs.declared.cells.Cell.{Cell}
-use Rattle.memory.specs.Cells.{fresh, fits}
+use Rattle.memory.specs.Cells.{fits}
 use Rattle.memory.specs.Packing.{packed, unpacked, tagged}
-use Rattle.memory.specs.Rules.{lookAt}
-use Rattle.memory.proofs.Parts.{look-inside, look-outside}
 
 -- over any number of bits for the value, a cell comes back from its number
 pub unpacked-packed : (bits : ℕ) (c : Cell) → c .value < 2 ^ bits → unpacked bits (packed bits c) ≡ c
@@ -28,10 +23,3 @@ packed-unpacked bits w = div-add-mod' w (2 ^ bits)
 -- a cell that has a tagged word fits one
 pub fits-from-word : (c : Cell) (w : ℕ) → Some w ≡ cond (fits tagged c) (Some (packed 48 c)) None → fits tagged c ≡ true
 fits-from-word c w e = grind (arith, tells)
-
-module _ (f : ℕ → Cell) (ws : List ℕ) (i : ℕ) where
-  pub look-row : i < length ws → Some (f (getD ws i 0)) ≡ lookAt (map f ws) i
-  look-row h = ap Some (sym (getD-map f ws i 0 fresh h)) ∙ sym (look-inside (map f ws) i (rw length-map h))
-
-  pub look-past-row : length ws ≤ i → None ≡ lookAt (map f ws) i
-  look-past-row h = sym (look-outside (map f ws) i (rw length-map h))

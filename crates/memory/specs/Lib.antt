@@ -4,4 +4,3 @@ pub mod Refusals
 pub mod Rows
 pub mod Rules
 pub mod Sizes
-pub mod Windows

@@ -1,13 +1,9 @@
-// Memories of cells: the rules that every memory shows of its list of cells, paired records, tagged words and windows;
-// and the one table of refusals.
+// What a memory of cells is: the cell, the rules that every memory shows of its list of cells, the tagged word;
+// the sizes that a ring can have; and the one table of refusals.
 pub mod cells;
-pub mod records;
 pub mod refusals;
-mod rows;
 pub mod rules;
 pub mod sizes;
 pub mod tagged;
 #[cfg(test)]
 mod tests;
-pub mod window;
-pub mod words;

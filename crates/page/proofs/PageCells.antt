@@ -16,7 +16,7 @@ use Rattle.memory.specs.Cells.{fresh, fits}
 use Rattle.memory.specs.Packing.{packed, unpacked, tagged}
 use Rattle.memory.specs.Rules.{lookAt}
 use Rattle.memory.proofs.Packs.{unpacked-packed}
-use Rattle.memory.proofs.Parts.{look-inside}
+use Rattle.memory.proofs.Looks.{look-inside}
 use Rattle.page.specs.Bytes.{cellFrom, cellBytes}
 use Rattle.page.specs.Pages.{checkedHead, checked, cellsIn, cellsBy, pageCells, othersBy, otherBytes}
 use Rattle.page.proofs.BigEndian.{number-bigEndian}

@@ -1,0 +1,4 @@
+// A window on any memory.
+#[cfg(test)]
+mod tests;
+pub mod window;
