@@ -7,7 +7,7 @@ use native.Mathlib.Omega.{arith}
 use native.Mathlib.Nat.{zero-add, suc-add}
 use lib.ListN.{length, set}
 use Rattle.std.proofs.shelf.Tests.{cases-lt}
-use Rattle.memory.specs.Rows.{overwritten}
+use Rattle.memory.specs.Lists.{overwritten}
 
 pub length-overwritten : {X : Type 0} (x : X) (ys : List X) (s n : ℕ) → length (overwritten x ys s n) ≡ length ys
 length-overwritten x [] s n = refl

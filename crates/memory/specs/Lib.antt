@@ -1,6 +1,6 @@
 pub mod Cells
+pub mod Lists
 pub mod Packing
 pub mod Refusals
-pub mod Rows
 pub mod Rules
 pub mod Sizes

@@ -11,7 +11,7 @@ use Rattle.memory.specs.declared.cells.Limits.{Limits}
 use Rattle.memory.specs.declared.rules.Exchanged.{Exchanged}
 use Rattle.memory.specs.declared.rules.Exchanged.the-variants.{Done, Differs, Unfit, NoCell}
 use Rattle.memory.specs.Cells.{fresh, fits}
-use Rattle.memory.specs.Rows.{overwritten}
+use Rattle.memory.specs.Lists.{overwritten}
 
 -- what a look at an index finds
 abbrev pub lookAt : List Cell → ℕ → Option Cell

@@ -30,7 +30,7 @@ impl Exchanged {
     // The answer of an exchange that finds this where it looks. The second clause follows from the first, and is what a
     // memory needs to know before it stores the new cell.
     pub fn answer(limits: Limits, found: Option<Cell>, expected: Cell, new: Cell) -> Exchanged
-        ensures says { λ r. ⌜ r ≡ answerAt limits found expected new ⌝ }
+        ensures value { λ r. ⌜ r ≡ answerAt limits found expected new ⌝ }
         ensures done { λ r. ⌜ (r ≡ Done → (isSome found ≡ true) × (fits limits new ≡ true)) ⌝ }
     {
         match found {

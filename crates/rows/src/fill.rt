@@ -1,6 +1,6 @@
-// Rows of any elements.
+// Overwriting a part of a row.
 ghost use mathlib.Core.Path.{_≡_};
-ghost use Rattle.memory.specs.Rows.{overwritten};
+ghost use Rattle.memory.specs.Lists.{overwritten};
 
 // Overwrites the elements from `start` on, `count` of them; places past the end are skipped.
 pub(crate) fn overwrite<T: Copy>(row: &mut [T], start: usize, count: usize, with: T)

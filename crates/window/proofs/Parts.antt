@@ -14,7 +14,7 @@ use Rattle.memory.specs.declared.cells.Cell.{Cell}
 use Rattle.memory.specs.declared.rules.Exchanged.{Exchanged}
 use Rattle.memory.specs.declared.rules.Exchanged.the-variants.{Done, Differs, Unfit, NoCell}
 use Rattle.memory.specs.Cells.{fresh}
-use Rattle.memory.specs.Rows.{overwritten}
+use Rattle.memory.specs.Lists.{overwritten}
 use Rattle.memory.specs.Rules.{lookAt, answerAt, exchangeAnswer, storedBy, cleared, Frame}
 use Rattle.window.specs.Windows.{windowed, framed, SamePlace, SamePart}
 use Rattle.memory.proofs.Looks.{look-inside, look-outside}

@@ -1,6 +1,6 @@
 use Prim.Native.Nat.{_-_}
 use mathlib.Core.Path.{_≡_}
-use Rattle.memory.specs.Rows.{overwritten}
+use Rattle.memory.specs.Lists.{overwritten}
 use Rattle.rows.proofs.fill.overwrite.Given as given
 
 abbrev pub Inv-loop-i : given.InvT-loop-i
