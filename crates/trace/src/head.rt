@@ -47,9 +47,11 @@ impl Kind {
     }
 }
 
+// The memory that a trace asks for.
 #[derive(Clone, Copy, PartialEq, Eq, Debug)]
 pub struct Head {
     pub kind: Kind,
+    // The number of cells.
     pub size: u16,
 }
 
