@@ -81,9 +81,9 @@ pub trait Memory {
 
 // Clears the whole of a memory, and answers its size.
 pub fn clear_all<M: Memory>(memory: &mut M) -> usize
-    ensures size { result ≡ length (cells memory.old) }
-    ensures after { cells memory.new ≡ cleared (cells memory.old) 0 (length (cells memory.old)) }
-    ensures apart { frame memory.new ≡ frame memory.old }
+    ensures size { result ≡ length (M.cells memory.old) }
+    ensures after { M.cells memory.new ≡ cleared (M.cells memory.old) 0 (length (M.cells memory.old)) }
+    ensures apart { M.frame memory.new ≡ M.frame memory.old }
 {
     let size = memory.size();
     memory.clear(0, size);

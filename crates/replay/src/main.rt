@@ -1,4 +1,6 @@
 // Replays a trace from standard input: judges its head, makes the memory that it asks for, and prints the first line.
+#![tactic(auto)]
+
 ghost use Rattle.std.specs.Prelude.{◌≡◌, true, IfOk, Err, string_bytes, MatchResult};
 ghost use Rattle.memory.specs.Sizes.{is_ring_size};
 ghost use Rattle.replay.specs.declared.Stop.TheVariants.{Refused, OutOfMemory};

@@ -38,7 +38,7 @@ impl Board {
 
     // The place of a seat in the table, if there is such a seat and the memory has the board's size.
     fn admit<M: Memory>(&self, memory: &M, seat: u8) -> Result<usize, Refusal>
-        ensures { result ≡ unless (seat_causes (ring_of (cells memory.now) self.now) seat []) seat }
+        ensures { result ≡ unless (seat_causes (ring_of (M.cells memory.now) self.now) seat []) seat }
     {
         if seat > 15 {
             return Err(Refusal::NoSeat { seat });
@@ -52,7 +52,7 @@ impl Board {
 
     // The same of a seat that carries no call.
     fn admit_begin<M: Memory>(&self, memory: &M, seat: u8) -> Result<usize, Refusal>
-        ensures { result ≡ unless (begin_causes (ring_of (cells memory.now) self.now) seat []) seat }
+        ensures { result ≡ unless (begin_causes (ring_of (M.cells memory.now) self.now) seat []) seat }
     {
         let at = self.admit(memory, seat)?;
         if !self.seats[at].is_idle() {
@@ -63,7 +63,7 @@ impl Board {
 
     // The same, with a value to put.
     fn admit_put<M: Memory>(&self, memory: &M, seat: u8, value: u64) -> Result<usize, Refusal>
-        ensures { result ≡ unless (put_causes bounds (ring_of (cells memory.now) self.now) seat value) seat }
+        ensures { result ≡ unless (put_causes M.bounds (ring_of (M.cells memory.now) self.now) seat value) seat }
     {
         let at = self.admit_begin(memory, seat)?;
         if value == 0 || value > memory.limits().value {
@@ -74,7 +74,7 @@ impl Board {
 
     // The same of a seat that carries one.
     fn admit_step<M: Memory>(&self, memory: &M, seat: u8) -> Result<usize, Refusal>
-        ensures { result ≡ unless (step_causes (ring_of (cells memory.now) self.now) seat []) seat }
+        ensures { result ≡ unless (step_causes (ring_of (M.cells memory.now) self.now) seat []) seat }
     {
         let at = self.admit(memory, seat)?;
         if self.seats[at].is_idle() {
@@ -85,7 +85,7 @@ impl Board {
 
     // The same, for a run alone of so many steps.
     fn admit_run<M: Memory>(&self, memory: &M, seat: u8, count: u16) -> Result<usize, Refusal>
-        ensures { result ≡ unless (run_causes (ring_of (cells memory.now) self.now) seat count) seat }
+        ensures { result ≡ unless (run_causes (ring_of (M.cells memory.now) self.now) seat count) seat }
     {
         let at = self.admit_step(memory, seat)?;
         if count == 0 || count > 8192 {
@@ -96,7 +96,7 @@ impl Board {
 
     // Begins a put of this value in an idle seat.
     pub fn begin_put<M: Memory>(&mut self, memory: &M, seat: u8, value: u64) -> Result<(), Refusal>
-        ensures { record { ring = ring_of (cells memory.now) self.new; answer = result } ≡ begin_put bounds (ring_of (cells memory.now) self.old) seat value }
+        ensures { record { ring = ring_of (M.cells memory.now) self.new; answer = result } ≡ begin_put M.bounds (ring_of (M.cells memory.now) self.old) seat value }
     {
         let at = self.admit_put(memory, seat, value)?;
         self.seats[at] = Seat::Start(Call::begin(Task::Put { value }));
@@ -105,7 +105,7 @@ impl Board {
 
     // Begins a take in an idle seat.
     pub fn begin_take<M: Memory>(&mut self, memory: &M, seat: u8) -> Result<(), Refusal>
-        ensures { record { ring = ring_of (cells memory.now) self.new; answer = result } ≡ begin_take (ring_of (cells memory.now) self.old) seat }
+        ensures { record { ring = ring_of (M.cells memory.now) self.new; answer = result } ≡ begin_take (ring_of (M.cells memory.now) self.old) seat }
     {
         let at = self.admit_begin(memory, seat)?;
         self.seats[at] = Seat::Start(Call::begin(Task::Take));
@@ -115,16 +115,16 @@ impl Board {
     // Lends one seat to a step: one access to one shared thing.
     fn advance<M: Memory>(&mut self, memory: &mut M, at: usize) -> Progress
         requires { (0 < self.old.size) × (at < 16) }
-        ensures after { record { ring = ring_of (cells memory.new) self.new; progress = result } ≡ advanced bounds (ring_of (cells memory.old) self.old) at }
-        ensures apart { frame memory.new ≡ frame memory.old }
+        ensures after { record { ring = ring_of (M.cells memory.new) self.new; progress = result } ≡ advanced M.bounds (ring_of (M.cells memory.old) self.old) at }
+        ensures apart { M.frame memory.new ≡ M.frame memory.old }
     {
         self.seats[at].step(memory, self.size, &mut self.hints)
     }
 
     // One step of the call that a seat carries.
     pub fn step<M: Memory>(&mut self, memory: &mut M, seat: u8) -> Result<Progress, Refusal>
-        ensures after { record { ring = ring_of (cells memory.new) self.new; answer = result } ≡ step_once bounds (ring_of (cells memory.old) self.old) seat }
-        ensures apart { frame memory.new ≡ frame memory.old }
+        ensures after { record { ring = ring_of (M.cells memory.new) self.new; answer = result } ≡ step_once M.bounds (ring_of (M.cells memory.old) self.old) seat }
+        ensures apart { M.frame memory.new ≡ M.frame memory.old }
     {
         let at = self.admit_step(memory, seat)?;
         Ok(self.advance(memory, at))
@@ -133,8 +133,8 @@ impl Board {
     // Steps one seat up to `count` times; an answer ends the run.
     fn run<M: Memory>(&mut self, memory: &mut M, at: usize, count: u16) -> Progress
         requires { (0 < self.old.size) × (at < 16) }
-        ensures after { record { ring = ring_of (cells memory.new) self.new; progress = result } ≡ run bounds count (ring_of (cells memory.old) self.old) at }
-        ensures apart { frame memory.new ≡ frame memory.old }
+        ensures after { record { ring = ring_of (M.cells memory.new) self.new; progress = result } ≡ run M.bounds count (ring_of (M.cells memory.old) self.old) at }
+        ensures apart { M.frame memory.new ≡ M.frame memory.old }
     {
         for _ in 0..count {
             let progress = self.advance(memory, at);
@@ -152,8 +152,8 @@ impl Board {
         seat: u8,
         count: u16,
     ) -> Result<Progress, Refusal>
-        ensures after { record { ring = ring_of (cells memory.new) self.new; answer = result } ≡ run_alone bounds (ring_of (cells memory.old) self.old) seat count }
-        ensures apart { frame memory.new ≡ frame memory.old }
+        ensures after { record { ring = ring_of (M.cells memory.new) self.new; answer = result } ≡ run_alone M.bounds (ring_of (M.cells memory.old) self.old) seat count }
+        ensures apart { M.frame memory.new ≡ M.frame memory.old }
     {
         let at = self.admit_run(memory, seat, count)?;
         Ok(self.run(memory, at, count))

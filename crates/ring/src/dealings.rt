@@ -46,8 +46,8 @@ impl Entry {
 impl Board {
     // Carries out one dealing.
     pub fn deal<M: Memory>(&mut self, memory: &mut M, dealing: Dealing) -> Result<Reply, Refusal>
-        ensures after { record { ring = ring_of (cells memory.new) self.new; answer = result } ≡ deal bounds (ring_of (cells memory.old) self.old) dealing }
-        ensures apart { frame memory.new ≡ frame memory.old }
+        ensures after { record { ring = ring_of (M.cells memory.new) self.new; answer = result } ≡ deal M.bounds (ring_of (M.cells memory.old) self.old) dealing }
+        ensures apart { M.frame memory.new ≡ M.frame memory.old }
     {
         let reply = match dealing {
             Dealing::BeginPut { seat, value } => {

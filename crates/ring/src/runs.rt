@@ -14,10 +14,10 @@ use memory::sizes::is_ring_size;
 impl Board {
     // Clears all of a memory and fills the board, for a ring on which all dealings to come are lawful.
     fn fill<M: Memory>(&mut self, memory: &mut M)
-        requires { is_ring_size (length (cells memory.old)) ≡ true }
-        ensures after { ring_of (cells memory.new) self.new ≡ new_ring (length (cells memory.old)) }
-        ensures law { RunsLawfully (length (cells memory.old)) bounds (ring_of (cells memory.new) self.new) }
-        ensures apart { frame memory.new ≡ frame memory.old }
+        requires { is_ring_size (length (M.cells memory.old)) ≡ true }
+        ensures after { ring_of (M.cells memory.new) self.new ≡ new_ring (length (M.cells memory.old)) }
+        ensures law { RunsLawfully (length (M.cells memory.old)) M.bounds (ring_of (M.cells memory.new) self.new) }
+        ensures apart { M.frame memory.new ≡ M.frame memory.old }
     {
         let size = clear_all(memory);
         *self = Board::with_size(size as u16);
@@ -26,9 +26,9 @@ impl Board {
     // Makes a ring of all of a memory: clears the memory and fills the board. Whatever is then dealt with this board and this
     // memory, if nothing else changes them, is lawful.
     pub fn make<M: Memory>(&mut self, memory: &mut M) -> Result<(), Refusal>
-        ensures after { record { ring = ring_of (cells memory.new) self.new; answer = result } ≡ make_ring (ring_of (cells memory.old) self.old) }
-        ensures law { result ≡ Ok tt → RunsLawfully (length (cells memory.old)) bounds (ring_of (cells memory.new) self.new) }
-        ensures apart { frame memory.new ≡ frame memory.old }
+        ensures after { record { ring = ring_of (M.cells memory.new) self.new; answer = result } ≡ make_ring (ring_of (M.cells memory.old) self.old) }
+        ensures law { result ≡ Ok tt → RunsLawfully (length (M.cells memory.old)) M.bounds (ring_of (M.cells memory.new) self.new) }
+        ensures apart { M.frame memory.new ≡ M.frame memory.old }
     {
         if !is_ring_size(memory.size()) {
             return Err(Refusal::RingSize);
@@ -39,9 +39,9 @@ impl Board {
 
     // Carries out every dealing of a log, and writes beside it what came of it.
     fn deal_each<M: Memory>(&mut self, memory: &mut M, log: &mut [Entry])
-        ensures ring { ring_of (cells memory.new) self.new ≡ ring_after bounds (ring_of (cells memory.old) self.old) (dealings_of log.old) }
-        ensures replies { log.new ≡ logged bounds (ring_of (cells memory.old) self.old) log.old }
-        ensures apart { frame memory.new ≡ frame memory.old }
+        ensures ring { ring_of (M.cells memory.new) self.new ≡ ring_after M.bounds (ring_of (M.cells memory.old) self.old) (dealings_of log.old) }
+        ensures replies { log.new ≡ logged M.bounds (ring_of (M.cells memory.old) self.old) log.old }
+        ensures apart { M.frame memory.new ≡ M.frame memory.old }
     {
         for entry in log.iter_mut() {
             entry.reply = Some(self.deal(memory, entry.dealing));
@@ -51,10 +51,10 @@ impl Board {
     // Makes a ring of all of a memory and carries out every dealing of a log with it, each meeting the ring as the one before
     // left it. What comes of a dealing, refused ones included, is written beside it. The whole run is lawful.
     pub fn carry_out<M: Memory>(&mut self, memory: &mut M, log: &mut [Entry]) -> Result<(), Refusal>
-        ensures after { record { ring = ring_of (cells memory.new) self.new; answer = result } ≡ carried_out bounds (ring_of (cells memory.old) self.old) log.old }
-        ensures replies { log.new ≡ log_after bounds (ring_of (cells memory.old) self.old) log.old }
-        ensures law { result ≡ Ok tt → LawfulThroughout (length (cells memory.old)) bounds (new_ring (length (cells memory.old))) (dealings_of log.old) }
-        ensures apart { frame memory.new ≡ frame memory.old }
+        ensures after { record { ring = ring_of (M.cells memory.new) self.new; answer = result } ≡ carried_out M.bounds (ring_of (M.cells memory.old) self.old) log.old }
+        ensures replies { log.new ≡ log_after M.bounds (ring_of (M.cells memory.old) self.old) log.old }
+        ensures law { result ≡ Ok tt → LawfulThroughout (length (M.cells memory.old)) M.bounds (new_ring (length (M.cells memory.old))) (dealings_of log.old) }
+        ensures apart { M.frame memory.new ≡ M.frame memory.old }
     {
         self.make(memory)?;
         self.deal_each(memory, log);

@@ -42,8 +42,8 @@ impl Hints {
 // The cell at an index. That a look outside the memory, which finds no cell, reads as a fresh one is a formality: no dealings
 // with a ring lead outside.
 fn read<M: Memory>(memory: &M, index: u16) -> Cell
-    ensures value { result ≡ cell_at (cells memory.now) index }
-    ensures within { Within bounds result }
+    ensures value { result ≡ cell_at (M.cells memory.now) index }
+    ensures within { Within M.bounds result }
 {
     match memory.look(index as usize) {
         Some(cell) => cell,
@@ -86,8 +86,8 @@ impl Seat {
         hints: &mut Hints,
     ) -> Progress
         requires { 0 < size }
-        ensures after { record { cells = cells memory.new; hints = hints.new; seat = self.new; progress = result } ≡ step_seat bounds size (cells memory.old) hints.old self.old }
-        ensures apart { frame memory.new ≡ frame memory.old }
+        ensures after { record { cells = M.cells memory.new; hints = hints.new; seat = self.new; progress = result } ≡ step_seat M.bounds size (M.cells memory.old) hints.old self.old }
+        ensures apart { M.frame memory.new ≡ M.frame memory.old }
     {
         *self = match *self {
             Seat::Idle => Seat::Idle,

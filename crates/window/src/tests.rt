@@ -53,8 +53,8 @@ fn a_window_passes_the_constants_on(rt: HostRuntime) {
 
 // Whoever lends a memory to a window knows what it holds once the window has ended.
 fn clear_part<M: Memory>(memory: &mut M, start: usize, count: usize) -> Result<(), Refusal>
-    ensures cells { M.Memory.cells memory.new ≡ (if is_ok result then cleared (M.Memory.cells memory.old) start count else M.Memory.cells memory.old) }
-    ensures apart { M.Memory.frame memory.new ≡ M.Memory.frame memory.old }
+    ensures cells { M.cells memory.new ≡ (if is_ok result then cleared (M.cells memory.old) start count else M.cells memory.old) }
+    ensures apart { M.frame memory.new ≡ M.frame memory.old }
 {
     let mut window = Window::over(memory);
     window.aim(start, count)?;

@@ -21,7 +21,7 @@ impl<'a, M: Memory> Window<'a, M> {
         ensures held { result.below.now ≡ below.old }
         ensures lender { result.below.ghost_name ≡ below.entry.ghost_name }
         ensures start { result.start ≡ 0 }
-        ensures count { result.count ≡ length (M.Memory.cells below.old) }
+        ensures count { result.count ≡ length (M.cells below.old) }
     {
         let count = below.size();
         Window {
@@ -33,7 +33,7 @@ impl<'a, M: Memory> Window<'a, M> {
 
     // Aims the window at the cells from `start` on, `count` of them.
     pub fn aim(&mut self, start: usize, count: usize) -> Result<(), Refusal>
-        ensures answer { result ≡ aimed start count (M.Memory.cells self.old.below.now) }
+        ensures answer { result ≡ aimed start count (M.cells self.old.below.now) }
         ensures held { self.new.below.now ≡ self.old.below.now }
         ensures lender { self.new.below.ghost_name ≡ self.old.below.ghost_name }
         ensures start { self.new.start ≡ (if is_ok result then start else self.old.start) }
@@ -51,14 +51,14 @@ impl<'a, M: Memory> Window<'a, M> {
     // The index below at which the window ends. It is clipped to the memory below: aiming has tested that, but the type
     // does not say so.
     fn end(&self) -> usize
-        ensures { result ≡ self.now.start + length (windowed self.now.start self.now.count (M.Memory.cells self.now.below.now)) }
+        ensures { result ≡ self.now.start + length (windowed self.now.start self.now.count (M.cells self.now.below.now)) }
     {
         self.start + self.count.min(self.below.size().saturating_sub(self.start))
     }
 
     // The index below of an index of the window; none outside.
     fn reach(&self, at: usize) -> Option<usize>
-        ensures { Reaches self.now.start self.now.count (M.Memory.cells self.now.below.now) at result }
+        ensures { Reaches self.now.start self.now.count (M.cells self.now.below.now) at result }
     {
         let end = self.end();
         if at < end - self.start {
@@ -70,7 +70,7 @@ impl<'a, M: Memory> Window<'a, M> {
 
     // The start and count below of a start and count of the window, as far as they lie in it.
     fn cover(&self, start: usize, count: usize) -> (usize, usize)
-        ensures { SamePart self.now.start self.now.count (M.Memory.cells self.now.below.now) start count result.0 result.1 }
+        ensures { SamePart self.now.start self.now.count (M.cells self.now.below.now) start count result.0 result.1 }
     {
         let end = self.end();
         let first = self.start + start.min(end - self.start);
@@ -83,11 +83,11 @@ impl<'a, M: Memory> Memory for Window<'a, M> {
 
     const LAST_ROUND: u32 = M::LAST_ROUND;
 
-    ghost cells = { λ w. windowed w.start w.count (M.Memory.cells w.below.now) };
+    ghost cells = { λ w. windowed w.start w.count (M.cells w.below.now) };
 
-    ghost bounds = { M.Memory.bounds };
+    ghost bounds = { M.bounds };
 
-    ghost frame = { λ w. framed w.below.ghost_name w.start w.count (M.Memory.cells w.below.now) (M.Memory.frame w.below.now) };
+    ghost frame = { λ w. framed w.below.ghost_name w.start w.count (M.cells w.below.now) (M.frame w.below.now) };
 
     fn limits(&self) -> Limits {
         self.below.limits()

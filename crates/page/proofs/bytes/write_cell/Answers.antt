@@ -13,5 +13,5 @@ returns-in-Some c =
     let n : at + 8 - at ≡ 8 = omega arith in
     let told = c.in-Some.ensures.value in
     let w : c.in-Some.word ≡ packed 48 c.args.cell = grind (arith, nat_tests) in
-    let e = c.copy-from-slice.ensures.after ∙ c.to-be-bytes-table.ensures ∙ eight_bytes c.in-Some.word ∙ ap (big_endian 8) w in
+    let e = c.copy_from_slice.ensures.after ∙ c.to_be_bytes-table.ensures ∙ eight_bytes c.in-Some.word ∙ ap (big_endian 8) w in
     ap₂ (λ (k : ℕ) (ys : List ℕ). take at bs ++ (ys ++ drop k (drop at bs))) n e ∙ ap (λ (zs : List ℕ). take at bs ++ (cell_bytes c.args.cell ++ zs)) (drop-drop 8 at bs)

@@ -6,4 +6,4 @@ pub returns-then-bytes-lt8 : goal.returns-then-bytes-lt8
 returns-then-bytes-lt8 c = record { answer = search rules; trips = round_trips c.args.bytes.now (λ h i. absurd (omega arith)) }
 
 pub returns : goal.returns
-returns c = record { answer = search rules; trips = round_trips c.args.bytes.now (λ h i. (c.type-inv.bytes i).fits) }
+returns c = record { answer = search rules; trips = round_trips c.args.bytes.now (λ h i. (c.type_inv.bytes i).fits) }

@@ -8,8 +8,8 @@ use Rattle.page.proofs.layout.write_page.Goals as goal
 pub returns : goal.returns
 returns c =
     let bs = c.args.bytes.now in
-    let h = c.copy-from-slice.new.self in
-    let e = c.copy-from-slice.ensures.after ∙ c.head-of-head.ensures in
+    let h = c.copy_from_slice.new.self in
+    let e = c.copy_from_slice.ensures.after ∙ c.head_of-head.ensures in
     let l8 : length h ≡ 8 = ap length e in
     let xs = h ++ post_of 0 8 bs in
     let l : length xs ≡ 8 + 8 * c.args.size = omega (arith, length-append h (post_of 0 8 bs), length-drop 8 bs) in

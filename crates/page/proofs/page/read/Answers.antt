@@ -5,6 +5,6 @@ use Rattle.page.proofs.page.read.Goals as goal
 pub returns-then-at-count : goal.returns-then-at-count
 returns-then-at-count c =
     record {
-      found = ap Some c.read-cell.ensures.value ∙ sym (page_look c.args.bytes.now c.args.at (omega arith));
-      within = c.read-cell.ensures.within;
+      found = ap Some c.read_cell.ensures.value ∙ sym (page_look c.args.bytes.now c.args.at (omega arith));
+      within = c.read_cell.ensures.within;
     }

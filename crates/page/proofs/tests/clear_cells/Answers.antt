@@ -12,4 +12,4 @@ cleared_page bs bs' start count trips trips' cells others =
     every_byte_fixed bs bs' trips trips' (ap length cells ∙ length-overwritten fresh (page_cells bs) start count) others ∙ ap (rewritten bs) cells
 
 pub returns : goal.returns
-returns c = cleared_page c.args.bytes.now _ c.args.start c.args.count c.check-page.ensures.trips c.check-page-2.ensures.trips (search rules) (search rules)
+returns c = cleared_page c.args.bytes.now _ c.args.start c.args.count c.check_page.ensures.trips c.check_page-2.ensures.trips (search rules) (search rules)

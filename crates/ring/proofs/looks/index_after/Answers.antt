@@ -5,5 +5,5 @@ use Rattle.ring.proofs.looks.index_after.Goals as goal
 pub returns-in-Some : goal.returns-in-Some
 returns-in-Some c = search (rules, next_remainder c.args.size c.args.index)
 
-pub returns-in-default : goal.returns-in-default
-returns-in-default c = search (rules, next_remainder c.args.size c.args.index)
+pub returns-in_default : goal.returns-in_default
+returns-in_default c = search (rules, next_remainder c.args.size c.args.index)

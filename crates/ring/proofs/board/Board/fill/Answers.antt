@@ -13,5 +13,5 @@ returns g c =
     let two : 2 ≤ length before =
     leb-true 2 (length before) (and_parts (leb 2 (length before)) (leb (length before) 4096) (and_parts (eqb (ones (length before)) 1) (leb 2 (length before) && leb (length before) 4096) c.requires).1).0 in
     let new =
-    ap₂ ring_of (c.clear-all-size.ensures.after ∙ overwritten_whole fresh before) (c.with-size.ensures ∙ ap new_board c.clear-all-size.ensures.size) in
-    record { after = new; law = runs_lawfully (length before) g.M.Memory.bounds _ two new; apart = c.clear-all-size.ensures.apart }
+    ap₂ ring_of (c.clear_all-size.ensures.after ∙ overwritten_whole fresh before) (c.with_size.ensures ∙ ap new_board c.clear_all-size.ensures.size) in
+    record { after = new; law = runs_lawfully (length before) g.M.Memory.bounds _ two new; apart = c.clear_all-size.ensures.apart }

@@ -14,7 +14,7 @@ pub loop-preserved : goal.loop-preserved
 loop-preserved g c =
     let size : c.advance-progress.new.self.size ≡ c.loop.self.size = ap (λ (m : Moved). m.ring.board.size) c.advance-progress.ensures.after in (
       omega arith,
-      run_goes_on _ _ _ _ c.advance-progress.ensures.after (c.args.count - (c.loop.counter + 1)) (c.args.count - c.loop.counter) (omega arith) c.in-default.is ∙ c.loop.invariant.1,
+      run_goes_on _ _ _ _ c.advance-progress.ensures.after (c.args.count - (c.loop.counter + 1)) (c.args.count - c.loop.counter) (omega arith) c.in_default.is ∙ c.loop.invariant.1,
       c.advance-progress.ensures.apart ∙ c.loop.invariant.2,
     )
 
