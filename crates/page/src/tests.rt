@@ -15,7 +15,7 @@ use std::test::Fail;
 fn a_reading_stands_high_byte_first(rt: HostRuntime) -> Result<(), Fail> {
     let mut bytes = [9u8; 24];
     lay_out(&mut bytes, 2)?;
-    assert_eq!(rt; &bytes[0..8], &[1, 0, 0, 0, 24, 0, 2, 0]);
+    assert_eq!(rt; &bytes[0..8], [1, 0, 0, 0, 24, 0, 2, 0].as_slice());
     let mut page = Page::over(&mut bytes);
     let reading = Cell {
         value: 258,
@@ -25,7 +25,7 @@ fn a_reading_stands_high_byte_first(rt: HostRuntime) -> Result<(), Fail> {
     assert_eq!(rt; page.look(1), Some(reading));
     assert_eq!(rt;
         &bytes[8..24],
-        &[0, 0, 0, 0, 0, 0, 0, 0, 0, 3, 0, 0, 0, 0, 1, 2]
+        [0, 0, 0, 0, 0, 0, 0, 0, 0, 3, 0, 0, 0, 0, 1, 2].as_slice()
     );
     Ok(())
 }
