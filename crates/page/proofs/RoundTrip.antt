@@ -1,7 +1,7 @@
 -- A page is read as one list of cells, which is written as that page; a list of cells is written as a page, from which it is read.
 use Rattle.std.proofs.Common.{◌≡◌, ℕ, zero, suc, ◌+◌, ◌-◌, ◌*◌, ◌^◌, ◌<◌, ◌≤◌, true, false, eqb, ltb, List, [], ◌∷◌, ◌++◌, length, get_or, take, drop, replicate, is_ok, Ok, Err, Result, sym, refl, ap, ◌∙◌, ap₂, arith}
 use borrow.Rule.Slice.PartMut.{put_mid}
-use Rattle.std.specs.List.{flat_map, AllByRecursion as All}
+use Rattle.std.specs.List.{flat_map, AllByRecursion}
 use Rattle.std.specs.Int.Digits.{number_from_digits, AllBelowBase}
 use Rattle.std.proofs.lemmas.Int.Digits.{number_lt}
 use Rattle.std.proofs.ByRecursion.{All-from_get_or, All-take, All-drop}
@@ -31,7 +31,7 @@ cell_within xs l u =
     (omega arith, omega arith)
 
 -- the bytes of n cells, read and written again
-read_cells : (n : ℕ) (xs : List ℕ) → length xs ≡ 8 * n → AllBelowBase 256 xs → (flat_map cell_bytes (cells_in n xs) ≡ xs) × All (Within tagged) (cells_in n xs)
+read_cells : (n : ℕ) (xs : List ℕ) → length xs ≡ 8 * n → AllBelowBase 256 xs → (flat_map cell_bytes (cells_in n xs) ≡ xs) × AllByRecursion (Within tagged) (cells_in n xs)
 read_cells zero xs l u = (sym (nil_from_length xs l), tt)
 read_cells (suc n) xs l u =
     let ly : length (take 8 xs) ≡ 8 = length-take-le 8 xs (omega arith) in
@@ -93,10 +93,10 @@ module _ (bs : List ℕ) (n : ℕ) (e : checked bs ≡ Ok n) where
   sized_page : RingSize (length (page_cells bs))
   sized_page = rw (accepted_count bs n e) ((decides_ring_size n).0 accepted_power)
 
-  body_back : AllBelowBase 256 bs → (flat_map cell_bytes (cells_in n (drop 8 bs)) ≡ drop 8 bs) × All (Within tagged) (cells_in n (drop 8 bs))
+  body_back : AllBelowBase 256 bs → (flat_map cell_bytes (cells_in n (drop 8 bs)) ≡ drop 8 bs) × AllByRecursion (Within tagged) (cells_in n (drop 8 bs))
   body_back u = read_cells n (drop 8 bs) (let m = accepted_length bs n e in omega (arith, length-drop 8 bs)) (All-drop (λ d. d < 256) 8 bs u)
 
-  within_page : AllBelowBase 256 bs → All (Within tagged) (page_cells bs)
+  within_page : AllBelowBase 256 bs → AllByRecursion (Within tagged) (page_cells bs)
   within_page u = rw cells_are (body_back u).1
 
   written_page : AllBelowBase 256 bs → page_of (page_cells bs) ≡ bs
@@ -106,7 +106,7 @@ module _ (bs : List ℕ) (n : ℕ) (e : checked bs ≡ Ok n) where
       ∙ take-append-drop 8 bs
 
 -- a list of cells, written and read again
-cells_back : (cs : List Cell) → All (Within tagged) cs → cells_in (length cs) (flat_map cell_bytes cs) ≡ cs
+cells_back : (cs : List Cell) → AllByRecursion (Within tagged) cs → cells_in (length cs) (flat_map cell_bytes cs) ≡ cs
 cells_back [] h = refl
 cells_back (c ∷ cs) h =
     let rest = flat_map cell_bytes cs in
@@ -138,7 +138,7 @@ accepted_written cs a =
     header_checked (length (page_of cs)) (length cs) (length-append (header (length cs)) (flat_map cell_bytes cs) ∙ omega (arith, length_body cs))
     ((decides_ring_size (length cs)).1 a) (size_bounds (length cs) a).1
 
-read_written : (cs : List Cell) → RingSize (length cs) → All (Within tagged) cs → page_cells (page_of cs) ≡ cs
+read_written : (cs : List Cell) → RingSize (length cs) → AllByRecursion (Within tagged) cs → page_cells (page_of cs) ≡ cs
 read_written cs a w = ap (λ (r : Result ℕ Refusal). cells_by r (page_of cs)) (accepted_written cs a) ∙ cells_back cs w
 
 ok_is : (r : Result ℕ Refusal) → is_ok r ≡ true → (n : ℕ) × (r ≡ Ok n)
@@ -181,7 +181,7 @@ module _ (bs bs' : List ℕ) (trips : RoundTrips bs) (trips' : RoundTrips bs') (
   pub every_byte_fixed : bs' ≡ rewritten bs (page_cells bs')
   every_byte_fixed = fixed_by (checked bs) refl
 
-all_fresh : (n : ℕ) → All (Within tagged) (replicate n fresh)
+all_fresh : (n : ℕ) → AllByRecursion (Within tagged) (replicate n fresh)
 all_fresh zero = tt
 all_fresh (suc n) = ((omega arith, omega arith), all_fresh n)
 

@@ -1,7 +1,7 @@
 -- A memory in a page of bytes.
 -- Byte 0 is the version, 1. Bytes 1 to 4 are the length of the whole page, bytes 5 and 6 the number of cells, and byte 7 is 0. The cells follow, of eight bytes each.
 use Rattle.std.specs.Prelude.{◌≡◌, ℕ, zero, suc, ◌+◌, ◌*◌, Bool, true, not, List, [], ◌∷◌, ◌++◌, length, take, drop, is_ok, Ok, Err, Result, ◌==◌, nat_lt}
-use Rattle.std.specs.List.{flat_map, AllByRecursion as All}
+use Rattle.std.specs.List.{flat_map, AllByRecursion}
 use Rattle.memory.specs.declared.cells.Cell.{Cell}
 use Rattle.memory.specs.declared.refusals.Refusal.{Refusal}
 use Rattle.memory.specs.declared.refusals.Refusal.TheVariants.{PageTooShort, PageVersion, PageLength, PageSize}
@@ -64,10 +64,10 @@ laid_out n s = unless ((nat_lt n 8, PageTooShort) ∷ size_causes n s) tt
 -- Bytes that are accepted are read as a list of cells that is written as these bytes; and a list of cells that is written as these bytes is the one that is read from them.
 pub record RoundTrips (bytes : List ℕ) : Type 0 where
   pub sized : is_ok (checked bytes) ≡ true → RingSize (length (page_cells bytes))
-  pub within : is_ok (checked bytes) ≡ true → All (Within tagged) (page_cells bytes)
+  pub within : is_ok (checked bytes) ≡ true → AllByRecursion (Within tagged) (page_cells bytes)
   pub written : is_ok (checked bytes) ≡ true → page_of (page_cells bytes) ≡ bytes
   pub accepted : (cells : List Cell) → RingSize (length cells) → page_of cells ≡ bytes → checked bytes ≡ Ok (length cells)
-  pub recovered : (cells : List Cell) → RingSize (length cells) → All (Within tagged) cells → page_of cells ≡ bytes → page_cells bytes ≡ cells
+  pub recovered : (cells : List Cell) → RingSize (length cells) → AllByRecursion (Within tagged) cells → page_of cells ≡ bytes → page_cells bytes ≡ cells
 
 -- these bytes with other cells in the place of their own: another page, or the same bytes where the check refuses them
 abbrev pub rewritten_by : Result ℕ Refusal → List ℕ → List Cell → List ℕ

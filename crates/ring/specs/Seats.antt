@@ -5,7 +5,6 @@ use Rattle.memory.specs.declared.cells.Limits.{Limits}
 use Rattle.memory.specs.declared.rules.Exchanged.{Exchanged}
 use Rattle.memory.specs.declared.rules.Exchanged.TheVariants.{Done, Differs, Unfit, NoCell}
 use Rattle.memory.specs.Rules.{exchange_answer, after_exchange}
-use Rattle.ring.specs.declared.calls.Answer.{Answer}
 use Rattle.ring.specs.declared.calls.Call.{Call}
 use Rattle.ring.specs.declared.calls.Outcome.{Outcome}
 use Rattle.ring.specs.declared.calls.Progress.{Progress}
