@@ -7,7 +7,7 @@ usage: python3 tools/respell.py        at the top of the repository, once, after
 
 It goes by whole names, in the clauses of src/ and in specs/ and proofs/, and lays each crate out again. Functions of
 src/, strings, inputs and outputs keep their names. It stands here so that the move to today's Rattle can be done
-again from the commit before it (docs/PORT.md), and does nothing for a repository that has been moved."""
+again from the commit before it (docs/PORT.md); here it has been run, and a second run would turn a name twice."""
 
 import glob
 import os
