@@ -1,3 +1,4 @@
+pub mod Exchanges
 pub mod Looks
 pub mod Overwriting
 pub mod Packs

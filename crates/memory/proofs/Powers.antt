@@ -1,8 +1,8 @@
 -- A number with one bit set is a power of two.
-use Rattle.std.proofs.Common.{◌≡◌, ℕ, suc, ◌+◌, ◌*◌, ◌/◌, ◌%◌, ◌^◌, ◌≤◌, true, ◌&&◌, eqb, leb, Decides, refl, ap, ◌∙◌, inl, inr, pow-suc, arith, pow_mono}
+use Rattle.std.proofs.Common.{◌≡◌, ℕ, suc, ◌+◌, ◌*◌, ◌/◌, ◌%◌, ◌^◌, ◌≤◌, true, ◌&&◌, eqb, leb, IsTrue, ◌↔◌, refl, ap, ◌∙◌, inl, inr, pow-suc, arith, pow_mono}
 use lib.Arith.{bin_ind}
 use lib.Count.{ones, ones_in, ones_step, ones_cat}
-use Rattle.std.proofs.lemmas.Nat.{pow_pos, pow_below}
+use Rattle.std.proofs.lemmas.Nat.{pow_pos, pow_below, zero_from_ones}
 use Rattle.std.proofs.lemmas.Bool.{eq-eqb, eqb-true, le-leb, leb-true, and_from, and_parts, cases_eq, cases_lt}
 use Rattle.memory.specs.Sizes.{RingSize, is_ring_size}
 
@@ -13,13 +13,6 @@ ones_zero = refl
 ones_one : ones 1 ≡ 1
 unfolding ones ones_in
 ones_one = refl
-
-zero_from_ones : (n : ℕ) → ones n ≡ 0 → n ≡ 0
-zero_from_ones = bin_ind (λ (n : ℕ). ones n ≡ 0 → n ≡ 0) (λ _. refl) (λ n ih h.
-    let s = ones_step n in
-    let q : ones (n / 2) ≡ 0 = omega arith in
-    let e = ih q in
-    omega arith)
 
 power_from_ones : (n : ℕ) → ones n ≡ 1 → (k : ℕ) × (n ≡ 2 ^ k)
 power_from_ones = bin_ind (λ (n : ℕ). ones n ≡ 1 → (k : ℕ) × (n ≡ 2 ^ k)) (λ h. absurd (omega (arith, ones_zero))) step
@@ -64,7 +57,7 @@ size_bounds s a =
     (omega arith, omega arith)
 
 -- the test by the count of one bits decides whether a number is a power of two from 2 to 4,096
-pub decides_ring_size : (s : ℕ) → Decides (is_ring_size s) (RingSize s)
+pub decides_ring_size : (s : ℕ) → IsTrue (is_ring_size s) ↔ RingSize s
 decides_ring_size s = (up, down)
   where
     up : is_ring_size s ≡ true → RingSize s

@@ -1,5 +1,5 @@
 -- A cell is a value and a round. Value 0 marks an empty cell, any other value a filled one; the round counts how often the cell has been emptied.
-use Rattle.std.specs.Prelude.{ℕ, ◌≤◌, Bool, not, ◌&&◌, ◌||◌, Some, None, Option, ◌==◌, nat_le, nat_lt}
+use Rattle.std.specs.Prelude.{ℕ, ◌≤◌, Bool, not, ◌&&◌, ◌||◌, ◌==◌, nat_le, nat_lt}
 use Rattle.memory.specs.declared.cells.Cell.{Cell}
 use Rattle.memory.specs.declared.cells.Limits.{Limits}
 
@@ -28,8 +28,3 @@ Within limits c = (c.value ≤ limits.value) × (c.round ≤ limits.round)
 
 abbrev pub fits : Limits → Cell → Bool
 fits limits c = nat_le c.value limits.value && nat_le c.round limits.round
-
--- the same of what a look finds
-abbrev pub FoundWithin : Limits → Option Cell → Type 0
-FoundWithin limits None = Unit {0}
-FoundWithin limits (Some c) = Within limits c

@@ -1,5 +1,5 @@
 -- The number, the place and the layer of every refusal.
-use Rattle.std.specs.Prelude.{ℕ, Bool, cond, List, [], ◌∷◌, Ok, Err, Result, nat_le}
+use Rattle.std.specs.Prelude.{ℕ, Bool, if◌then◌else◌, List, [], ◌∷◌, Ok, Err, Result, nat_le}
 use Rattle.memory.specs.declared.refusals.Layer.{Layer}
 use Rattle.memory.specs.declared.refusals.Layer.TheVariants.{Ring, Memory, Trace}
 use Rattle.memory.specs.declared.refusals.Refusal.{Refusal}
@@ -37,12 +37,12 @@ place_of TraceHead = 0
 
 -- ring for 1 to 8, memory for 9 to 13, trace for 14 to 16
 abbrev pub layer_of : Refusal → Layer
-layer_of r = cond (nat_le (number_of r) 8) Ring (cond (nat_le (number_of r) 13) Memory Trace)
+layer_of r = if nat_le (number_of r) 8 then Ring else if nat_le (number_of r) 13 then Memory else Trace
 
 -- the answer x, unless some cause applies: then the first that does
 abbrev pub unless : {X : Type 0} → List (Bool × Refusal) → X → Result X Refusal
 unless [] x = Ok x
-unless (cause ∷ causes) x = cond cause.0 (Err cause.1) (unless causes x)
+unless (cause ∷ causes) x = if cause.0 then Err cause.1 else unless causes x
 
 -- one judgement after another: the second answer, unless the first refuses
 abbrev pub and_then : {X Y : Type 0} → Result X Refusal → Result Y Refusal → Result Y Refusal

@@ -1,34 +1,35 @@
 -- What the calls of a memory do to its list of cells.
-use Rattle.std.specs.Prelude.{ℕ, Bool, cond, ◌&&◌, List, length, Some, None, Option, ◌==◌, nat_lt, slice_index_or, slice_set}
+use Rattle.std.specs.Prelude.{ℕ, Bool, if◌then◌else◌, ◌&&◌, List, length, Some, None, Option, Ok, Err, Result, ◌==◌, nat_lt, slice_index_or, slice_set}
 use Rattle.memory.specs.declared.cells.Cell.{Cell}
 use Rattle.memory.specs.declared.cells.Limits.{Limits}
-use Rattle.memory.specs.declared.rules.Exchanged.{Exchanged}
-use Rattle.memory.specs.declared.rules.Exchanged.TheVariants.{Done, Differs, Unfit, NoCell}
+use Rattle.memory.specs.declared.rules.Declined.{Declined}
+use Rattle.memory.specs.declared.rules.Declined.TheVariants.{NoCell, Unfit, Differs}
 use Rattle.memory.specs.Cells.{fresh, fits}
 use Rattle.memory.specs.Lists.{overwritten}
 
 -- what a look at an index finds
 abbrev pub look_at : List Cell → ℕ → Option Cell
-look_at cells i = cond (nat_lt i (length cells)) (Some (slice_index_or cells i fresh)) None
+look_at cells i = if nat_lt i (length cells) then Some (slice_index_or cells i fresh) else None
 
 -- the same value and the same round
 abbrev pub alike : Cell → Cell → Bool
 alike a b = a.value == b.value && a.round == b.round
 
--- what an exchange answers where a look finds this
-abbrev pub answer_at : Limits → Option Cell → Cell → Cell → Exchanged
-answer_at limits None expected new = NoCell
-answer_at limits (Some found) expected new = cond (fits limits new) (cond (alike found expected) Done Differs) Unfit
+-- what an exchange answers where a look finds this: x, unless there is no cell, or the new one does not fit, or the one there is not the expected one
+abbrev pub answer_at : {X : Type 0} → Limits → Option Cell → Cell → Cell → X → Result X Declined
+answer_at limits None expected new x = Err NoCell
+answer_at limits (Some found) expected new x = if fits limits new then if alike found expected then Ok x else Err Differs else Err Unfit
 
-abbrev pub exchange_answer : Limits → List Cell → ℕ → Cell → Cell → Exchanged
-exchange_answer limits cells i expected new = answer_at limits (look_at cells i) expected new
+abbrev pub exchange_checked : {X : Type 0} → Limits → List Cell → ℕ → Cell → Cell → X → Result X Declined
+exchange_checked limits cells i expected new x = answer_at limits (look_at cells i) expected new x
 
--- only 'done' changes anything, and only that cell
-abbrev pub stored_by : Exchanged → List Cell → ℕ → Cell → List Cell
-stored_by Done cells i new = slice_set cells i new
-stored_by Differs cells i new = cells
-stored_by Unfit cells i new = cells
-stored_by NoCell cells i new = cells
+abbrev pub exchange_answer : Limits → List Cell → ℕ → Cell → Cell → Result (Unit {0}) Declined
+exchange_answer limits cells i expected new = exchange_checked limits cells i expected new tt
+
+-- only an exchange that is done changes anything, and only that cell
+abbrev pub stored_by : Result (Unit {0}) Declined → List Cell → ℕ → Cell → List Cell
+stored_by (Ok done) cells i new = slice_set cells i new
+stored_by (Err cause) cells i new = cells
 
 abbrev pub after_exchange : Limits → List Cell → ℕ → Cell → Cell → List Cell
 after_exchange limits cells i expected new = stored_by (exchange_answer limits cells i expected new) cells i new

@@ -24,7 +24,7 @@ impl Cell {
     pub fn is_before(self, at: usize, other: Cell, other_at: usize) -> bool
         ensures { result ≡ before self at other other_at }
     {
-        self.round < other.round || self.round == other.round && at < other_at
+        (self.round, at) < (other.round, other_at)
     }
 }
 

@@ -3,6 +3,7 @@
 #![tactic(auto)]
 
 pub mod cells;
+pub mod elements;
 pub mod refusals;
 pub mod rules;
 pub mod sizes;

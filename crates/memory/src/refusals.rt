@@ -42,6 +42,7 @@ pub enum Refusal {
 }
 
 impl Refusal {
+    // The number that is printed for this cause. The cases have fields, so none can have its number as a discriminant.
     pub fn number(self) -> u8
         ensures { result ≡ number_of self }
     {

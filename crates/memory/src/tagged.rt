@@ -1,9 +1,10 @@
 // A cell in one tagged word: the round stands above the 48 bits of the value.
-ghost use Rattle.std.specs.Prelude.{◌≡◌, IfSome, if◌then◌else◌, Some, None};
-ghost use Rattle.memory.specs.Cells.{fits, Within};
+ghost use Rattle.std.specs.Prelude.{◌≡◌, refl};
+ghost use Rattle.std.proofs.Common.{lit≤};
 ghost use Rattle.memory.specs.Packing.{packed, unpacked, tagged};
 
 use crate::cells::{Cell, Limits};
+use crate::elements::Element;
 
 // The largest value and the last round that a tagged word holds.
 pub const LIMITS: Limits = Limits {
@@ -14,26 +15,35 @@ pub const LIMITS: Limits = Limits {
 // What one round counts in a word.
 const ROUND_UNIT: u64 = 1 << 48;
 
-// The word of a cell; none where the cell does not fit a word.
-pub fn pack(cell: Cell) -> Option<u64>
-    ensures value { result ≡ (if fits tagged cell then Some (packed 48 cell) else None) }
-    ensures back { IfSome result (λ word. unpacked 48 word ≡ cell) }
-{
-    if LIMITS.admit(cell) {
-        Some(cell.round as u64 * ROUND_UNIT + cell.value)
-    } else {
-        None
-    }
-}
+impl Element for u64 {
+    const LIMITS: Limits = LIMITS;
 
-// The cell of a word.
-pub fn unpack(word: u64) -> Cell
-    ensures value { result ≡ unpacked 48 word }
-    ensures within { Within tagged result }
-    ensures back { packed 48 result ≡ word }
-{
-    Cell {
-        value: word % ROUND_UNIT,
-        round: (word / ROUND_UNIT) as u32,
+    const CLEAR: u64 = 0;
+
+    ghost LIMITS = { tagged };
+
+    ghost CLEAR = { 0 };
+
+    ghost cell_of = { unpacked 48 };
+
+    ghost element_of = { packed 48 };
+
+    fn cell(self) -> Cell {
+        Cell {
+            value: self % ROUND_UNIT,
+            round: (self / ROUND_UNIT) as u32,
+        }
     }
+
+    fn holding(cell: Cell) -> Option<u64> {
+        if Self::LIMITS.admit(cell) {
+            Some(cell.round as u64 * ROUND_UNIT + cell.value)
+        } else {
+            None
+        }
+    }
+
+    ghost proper = { (lit≤ tt, lit≤ tt, lit≤ tt) };
+
+    ghost cleared = { refl };
 }

@@ -1,7 +1,7 @@
 // Examples of cells, of the sizes of a ring, and of a tagged word.
 use crate::cells::Cell;
+use crate::elements::Element;
 use crate::sizes::is_ring_size;
-use crate::tagged::{pack, unpack};
 
 #[test]
 fn cells_are_ordered_by_round_and_then_by_index(rt: HostRuntime) {
@@ -25,10 +25,10 @@ fn a_word_has_the_round_above_the_value(rt: HostRuntime) {
         value: 258,
         round: 3,
     };
-    assert_eq!(rt; pack(reading), Some(0x0003_0000_0000_0102));
-    assert_eq!(rt; unpack(0x0003_0000_0000_0102), reading);
+    assert_eq!(rt; u64::holding(reading), Some(0x0003_0000_0000_0102));
+    assert_eq!(rt; 0x0003_0000_0000_0102u64.cell(), reading);
     assert_eq!(rt;
-        pack(Cell {
+        u64::holding(Cell {
             value: 0,
             round: 65_536,
         }),

@@ -1,7 +1,8 @@
 -- A memory in a page of bytes.
 -- Byte 0 is the version, 1. Bytes 1 to 4 are the length of the whole page, bytes 5 and 6 the number of cells, and byte 7 is 0. The cells follow, of eight bytes each.
-use Rattle.std.specs.Prelude.{◌≡◌, ℕ, zero, suc, ◌+◌, ◌*◌, Bool, true, not, List, [], ◌∷◌, ◌++◌, length, take, drop, is_ok, Ok, Err, Result, ◌==◌, nat_lt}
-use Rattle.std.specs.List.{flat_map, AllByRecursion}
+use Rattle.std.specs.Prelude.{◌≡◌, ℕ, ◌+◌, ◌*◌, Bool, not, List, [], ◌∷◌, ◌++◌, map, length, take, drop, IsOk, Ok, Err, Result, ◌==◌, nat_lt, All, flat_map}
+use Rattle.std.specs.Int.{w16, w32, to_be_bytes}
+use Rattle.std.specs.Simd.{first_chunks}
 use Rattle.memory.specs.declared.cells.Cell.{Cell}
 use Rattle.memory.specs.declared.refusals.Refusal.{Refusal}
 use Rattle.memory.specs.declared.refusals.Refusal.TheVariants.{PageTooShort, PageVersion, PageLength, PageSize}
@@ -9,11 +10,11 @@ use Rattle.memory.specs.Cells.{Within}
 use Rattle.memory.specs.Packing.{tagged}
 use Rattle.memory.specs.Refusals.{unless}
 use Rattle.memory.specs.Sizes.{is_ring_size, RingSize}
-use Rattle.page.specs.Bytes.{big_endian, field, cell_bytes, cell_from}
+use Rattle.page.specs.Bytes.{field, cell_bytes, cell_from}
 
 -- the head of a page of s cells
 abbrev pub header : ℕ → List ℕ
-header s = 1 ∷ (big_endian 4 (8 + 8 * s) ++ (big_endian 2 s ++ (0 ∷ [])))
+header s = 1 ∷ (to_be_bytes w32 (8 + 8 * s) ++ (to_be_bytes w16 s ++ (0 ∷ [])))
 
 -- the page that holds these cells
 abbrev pub page_of : List Cell → List ℕ
@@ -38,8 +39,7 @@ checked bytes = checked_head (length bytes) (take 8 bytes)
 
 -- the cells in n groups of eight bytes
 abbrev pub cells_in : ℕ → List ℕ → List Cell
-cells_in zero bytes = []
-cells_in (suc n) bytes = cell_from (take 8 bytes) ∷ cells_in n (drop 8 bytes)
+cells_in n bytes = map cell_from (first_chunks 8 n bytes)
 
 -- the cells of a page: none where the check refuses it
 abbrev pub cells_by : Result ℕ Refusal → List ℕ → List Cell
@@ -63,11 +63,11 @@ laid_out n s = unless ((nat_lt n 8, PageTooShort) ∷ size_causes n s) tt
 
 -- Bytes that are accepted are read as a list of cells that is written as these bytes; and a list of cells that is written as these bytes is the one that is read from them.
 pub record RoundTrips (bytes : List ℕ) : Type 0 where
-  pub sized : is_ok (checked bytes) ≡ true → RingSize (length (page_cells bytes))
-  pub within : is_ok (checked bytes) ≡ true → AllByRecursion (Within tagged) (page_cells bytes)
-  pub written : is_ok (checked bytes) ≡ true → page_of (page_cells bytes) ≡ bytes
+  pub sized : IsOk (checked bytes) → RingSize (length (page_cells bytes))
+  pub within : IsOk (checked bytes) → All (Within tagged) (page_cells bytes)
+  pub written : IsOk (checked bytes) → page_of (page_cells bytes) ≡ bytes
   pub accepted : (cells : List Cell) → RingSize (length cells) → page_of cells ≡ bytes → checked bytes ≡ Ok (length cells)
-  pub recovered : (cells : List Cell) → RingSize (length cells) → AllByRecursion (Within tagged) cells → page_of cells ≡ bytes → page_cells bytes ≡ cells
+  pub recovered : (cells : List Cell) → RingSize (length cells) → All (Within tagged) cells → page_of cells ≡ bytes → page_cells bytes ≡ cells
 
 -- these bytes with other cells in the place of their own: another page, or the same bytes where the check refuses them
 abbrev pub rewritten_by : Result ℕ Refusal → List ℕ → List Cell → List ℕ

@@ -1,30 +1,54 @@
 // A cell in eight bytes.
-ghost use Rattle.std.specs.Prelude.{◌≡◌, ◌+◌, ◌≤◌, true, ◌++◌, length, take, drop};
-ghost use Rattle.memory.specs.Cells.{fits, Within};
+ghost use Rattle.std.specs.Prelude.{◌≡◌, replicate, refl};
+ghost use Rattle.std.proofs.Common.{lit≤};
+ghost use Rattle.memory.specs.Cells.{Within};
 ghost use Rattle.memory.specs.Packing.{tagged};
 ghost use Rattle.page.specs.Bytes.{cell_from, cell_bytes};
 
-use memory::cells::Cell;
-use memory::tagged::{pack, unpack};
+use memory::cells::{Cell, Limits};
+use memory::elements::Element;
+use memory::tagged::LIMITS;
 
-// The cell that the eight bytes from `from` on write.
-pub(crate) fn read_cell(bytes: &[u8], from: usize) -> Cell
-    requires { from + 8 ≤ length bytes.now }
-    ensures value { result ≡ cell_from (take 8 (drop from bytes.now)) }
+// The cell whose tagged word stands in these bytes.
+fn cell_in(bytes: [u8; 8]) -> Cell
+    ensures value { result ≡ cell_from bytes }
     ensures within { Within tagged result }
+    ensures back { cell_bytes result ≡ bytes }
 {
-    let mut table = [0u8; 8];
-    table.copy_from_slice(&bytes[from..from + 8]);
-    unpack(u64::from_be_bytes(table))
+    u64::from_be_bytes(bytes).cell()
 }
 
-// Writes a cell into the eight bytes from `from` on.
-pub(crate) fn write_cell(bytes: &mut [u8], from: usize, cell: Cell)
-    requires { (from + 8 ≤ length bytes.old) × (fits tagged cell ≡ true) }
-    ensures { bytes.new ≡ take from bytes.old ++ (cell_bytes cell ++ drop (from + 8) bytes.old) }
-{
-    if let Some(word) = pack(cell) {
-        let table = word.to_be_bytes();
-        bytes[from..from + 8].copy_from_slice(&table);
+// A cell in the eight bytes of its tagged word, high byte first.
+#[derive(Clone, Copy)]
+pub struct CellBytes {
+    pub bytes: [u8; 8],
+}
+
+impl Element for CellBytes {
+    const LIMITS: Limits = LIMITS;
+
+    const CLEAR: CellBytes = CellBytes { bytes: [0; 8] };
+
+    ghost LIMITS = { tagged };
+
+    ghost CLEAR = { record { bytes = replicate 8 0 } };
+
+    ghost cell_of = { λ e. cell_from e.bytes };
+
+    ghost element_of = { λ c. record { bytes = cell_bytes c } };
+
+    fn cell(self) -> Cell {
+        cell_in(self.bytes)
     }
+
+    fn holding(cell: Cell) -> Option<CellBytes> {
+        let word = u64::holding(cell)?;
+        Some(CellBytes {
+            bytes: word.to_be_bytes(),
+        })
+    }
+
+    ghost proper = { (lit≤ tt, lit≤ tt, lit≤ tt) };
+
+    ghost cleared = { refl };
 }

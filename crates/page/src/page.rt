@@ -1,54 +1,46 @@
 // The memory that a page of bytes is.
-ghost use Rattle.std.specs.Prelude.{◌≡◌, ◌+◌, ◌-◌, ◌*◌, ◌<◌, ◌≤◌, true, length, slice_set};
-ghost use Rattle.memory.specs.Cells.{fits, FoundWithin};
-ghost use Rattle.memory.specs.Packing.{tagged};
-ghost use Rattle.memory.specs.Rules.{look_at, cleared, lent};
+ghost use Rattle.std.specs.Prelude.{◌≡◌, ◌<◌, map, length, slice_set};
+ghost use Rattle.memory.specs.Rules.{cleared, lent};
+ghost use Rattle.page.specs.Bytes.{cell_from};
 ghost use Rattle.page.specs.Pages.{page_cells, other_bytes};
 
-use crate::bytes::{read_cell, write_cell};
+use crate::bytes::CellBytes;
 use crate::check::check_page;
-use memory::cells::{Cell, Limits};
-use memory::rules::{Exchanged, Memory};
-use memory::tagged::LIMITS;
+use memory::cells::Cell;
+use memory::elements::Element;
+use memory::rules::{Declined, Memory};
 
-// The rules are proved of these four functions over the bytes; the methods below only hand them on.
-// The number of cells: none where the check refuses the page.
-fn count(bytes: &[u8]) -> usize
-    ensures value { result ≡ length (page_cells bytes.now) }
-    ensures room { 8 * result ≤ length bytes.now - 8 }
+// The bytes of each cell: none where the check refuses the page.
+fn cells(bytes: &[u8]) -> &[[u8; 8]]
+    ensures cells { map cell_from result.now ≡ page_cells bytes.now }
+    ensures len { length result.now ≡ length (page_cells bytes.now) }
 {
     match check_page(bytes) {
-        Ok(size) => size,
-        Err(_) => 0,
+        Ok(_) => bytes[8..].as_chunks().0,
+        Err(_) => &[],
     }
 }
 
-fn read(bytes: &[u8], at: usize) -> Option<Cell>
-    ensures found { result ≡ look_at (page_cells bytes.now) at }
-    ensures within { FoundWithin tagged result }
-{
-    if at < count(bytes) {
-        Some(read_cell(bytes, 8 + 8 * at))
-    } else {
-        None
-    }
-}
-
-fn write(bytes: &mut [u8], at: usize, cell: Cell)
-    requires { (at < length (page_cells bytes.old)) × (fits tagged cell ≡ true) }
-    ensures cells { page_cells bytes.new ≡ slice_set (page_cells bytes.old) at cell }
+// Stores an element in the place of a cell.
+#[tactic(auto, using(crate::proofs::PageCells::room))]
+fn store(bytes: &mut [u8], at: usize, element: CellBytes)
+    requires { at < length (page_cells bytes.old) }
+    ensures cells { page_cells bytes.new ≡ slice_set (page_cells bytes.old) at (cell_from element.bytes) }
     ensures others { other_bytes bytes.new ≡ other_bytes bytes.old }
 {
-    write_cell(bytes, 8 + 8 * at, cell);
+    let from = 8 + 8 * at;
+    bytes[from..from + 8].copy_from_slice(&element.bytes);
 }
 
-fn wipe(bytes: &mut [u8], start: usize, many: usize)
-    ensures cells { page_cells bytes.new ≡ cleared (page_cells bytes.old) start many }
+// Clears the cells from `start` on, `count` of them: eight bytes of 0 each. Indices outside are skipped.
+#[tactic(auto, using(crate::proofs::PageCells::room))]
+fn wipe(bytes: &mut [u8], start: usize, count: usize)
+    ensures cells { page_cells bytes.new ≡ cleared (page_cells bytes.old) start count }
     ensures others { other_bytes bytes.new ≡ other_bytes bytes.old }
 {
-    let end = start.saturating_add(many).min(count(bytes));
-    for i in start..end {
-        write(bytes, i, Cell::FRESH);
+    let end = start.saturating_add(count).min(cells(bytes).len());
+    if start < end {
+        bytes[8 + 8 * start..8 + 8 * end].fill(0);
     }
 }
 
@@ -69,37 +61,25 @@ impl<'a> Page<'a> {
 }
 
 impl<'a> Memory for Page<'a> {
-    const LARGEST_VALUE: u64 = LIMITS.value;
-
-    const LAST_ROUND: u32 = LIMITS.round;
+    type Element = CellBytes;
 
     ghost cells = { λ m. page_cells m.bytes.now };
 
-    ghost bounds = { tagged };
-
     ghost frame = { λ m. lent m.bytes.ghost_name (other_bytes m.bytes.now) };
 
-    fn limits(&self) -> Limits {
-        Limits {
-            value: Self::LARGEST_VALUE,
-            round: Self::LAST_ROUND,
-        }
-    }
-
     fn size(&self) -> usize {
-        count(self.bytes)
+        cells(self.bytes).len()
     }
 
     fn look(&self, at: usize) -> Option<Cell> {
-        read(self.bytes, at)
+        let bytes = cells(self.bytes).get(at)?;
+        Some(CellBytes { bytes: *bytes }.cell())
     }
 
-    fn exchange(&mut self, at: usize, expected: Cell, new: Cell) -> Exchanged {
-        let answer = Exchanged::answer(self.limits(), self.look(at), expected, new);
-        if answer == Exchanged::Done {
-            write(self.bytes, at, new);
-        }
-        answer
+    fn exchange(&mut self, at: usize, expected: Cell, new: Cell) -> Result<(), Declined> {
+        let element = self.check_exchange(at, expected, new)?;
+        store(self.bytes, at, element);
+        Ok(())
     }
 
     fn clear(&mut self, start: usize, count: usize) {

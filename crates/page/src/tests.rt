@@ -8,7 +8,7 @@ use crate::layout::lay_out;
 use crate::page::Page;
 use memory::cells::Cell;
 use memory::refusals::Refusal;
-use memory::rules::{Exchanged, Memory};
+use memory::rules::Memory;
 use std::test::Fail;
 
 #[test]
@@ -21,7 +21,7 @@ fn a_reading_stands_high_byte_first(rt: HostRuntime) -> Result<(), Fail> {
         value: 258,
         round: 3,
     };
-    assert_eq!(rt; page.exchange(1, Cell::FRESH, reading), Exchanged::Done);
+    assert_eq!(rt; page.exchange(1, Cell::FRESH, reading), Ok(()));
     assert_eq!(rt; page.look(1), Some(reading));
     assert_eq!(rt;
         &bytes[8..24],
@@ -34,8 +34,8 @@ fn a_reading_stands_high_byte_first(rt: HostRuntime) -> Result<(), Fail> {
 fn damaged(at: usize, byte: u8) -> Result<usize, Refusal> {
     let mut bytes = [0u8; 24];
     lay_out(&mut bytes, 2)?;
-    if at < 24 {
-        bytes[at] = byte;
+    if let Some(place) = bytes.get_mut(at) {
+        *place = byte;
     }
     check_page(&bytes)
 }

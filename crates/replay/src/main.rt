@@ -1,25 +1,24 @@
 // Replays a trace from standard input: judges its head, makes the memory that it asks for, and prints the first line.
 #![tactic(auto)]
 
-ghost use Rattle.std.specs.Prelude.{◌≡◌, true, IfOk, Err, string_bytes, MatchResult};
-ghost use Rattle.memory.specs.Sizes.{is_ring_size};
+ghost use Rattle.std.specs.Prelude.{◌≡◌, IfOk, Err, MatchResult};
 ghost use Rattle.replay.specs.declared.Stop.TheVariants.{Refused, OutOfMemory};
 ghost use Rattle.replay.specs.Stops.{RefusedWith};
 ghost use Rattle.trace.specs.Heads.{head_of};
-ghost use Rattle.trace.specs.Lines.{opening_line};
+ghost use Rattle.trace.specs.Lines.{line_of_trace};
 
 use memory::cells::Cell;
+use memory::elements::Element;
 use memory::refusals::Refusal;
 use memory::rules::clear_all;
+use memory::sizes::Size;
 use page::layout::lay_out;
 use page::page::Page;
-use rows::records::Records;
-use rows::words::Words;
+use rows::row::Row;
 use std::alloc::{AllocError, Global};
-use std::io;
-use std::io::Read;
+use std::io::{self, Read};
 use trace::head::{Head, Kind, MAX_LENGTH, read_head};
-use trace::lines::{fault_line, ring_line};
+use trace::lines::Line;
 
 // Why a trace is not replayed.
 #[derive(Drop)]
@@ -44,46 +43,52 @@ impl From<AllocError> for Stop {
     }
 }
 
-// Makes the memory that a head asks for, cleared, and answers its number of cells. Only want of memory stops it.
-fn make_memory(heap: Global, head: Head) -> Result<usize, Stop>
-    requires { is_ring_size head.size ≡ true }
-    ensures { MatchResult result (λ n. n ≡ head.size) (RefusedWith (λ _. ⊥)) }
+// Makes a row of so many cells in one form, cleared, and answers its number of cells.
+fn make_row<E: Element>(heap: Global, size: Size) -> Result<usize, AllocError>
+    ensures { IfOk result (λ n. n ≡ size) }
 {
-    let size = head.size as usize;
-    match head.kind {
-        Kind::Records => {
-            let mut records = vec![in heap; Cell::FRESH; size]?;
-            Ok(clear_all(&mut Records::over(records.as_mut_slice())))
-        }
-        Kind::Words => {
-            let mut words = vec![in heap; 0u64; size]?;
-            Ok(clear_all(&mut Words::over(words.as_mut_slice())))
-        }
-        Kind::Page => {
-            let mut bytes = vec![in heap; 0u8; 8 + 8 * size]?;
-            let page = bytes.as_mut_slice();
-            lay_out(page, size)?;
-            Ok(clear_all(&mut Page::over(page)))
-        }
+    let mut elements = vec![in heap; E::CLEAR; size.cells()]?;
+    Ok(clear_all(&mut Row::over(elements.as_mut_slice())))
+}
+
+// Makes a page of so many cells, cleared, and answers its number of cells. Only want of memory stops it.
+fn make_page(heap: Global, size: Size) -> Result<usize, Stop>
+    ensures { MatchResult result (λ n. n ≡ size) (RefusedWith (λ _. ⊥)) }
+{
+    let cells = size.cells();
+    let mut bytes = vec![in heap; 0u8; 8 + 8 * cells]?;
+    let page = bytes.as_mut_slice();
+    lay_out(page, cells)?;
+    Ok(clear_all(&mut Page::over(page)))
+}
+
+// Makes a memory of this kind and size, cleared, and answers its number of cells. Only want of memory stops it.
+fn make_memory(heap: Global, kind: Kind, size: Size) -> Result<usize, Stop>
+    ensures { MatchResult result (λ n. n ≡ size) (RefusedWith (λ _. ⊥)) }
+{
+    match kind {
+        Kind::Records => Ok(make_row::<Cell>(heap, size)?),
+        Kind::Words => Ok(make_row::<u64>(heap, size)?),
+        Kind::Page => make_page(heap, size),
     }
 }
 
 // The first line of a trace, or why it has none.
-fn opening(heap: Global, trace: &[u8]) -> Result<String, Stop>
-    ensures { MatchResult result (λ s. string_bytes s ≡ opening_line trace.now) (RefusedWith (λ e. head_of trace.now ≡ Err e)) }
+fn opening(heap: Global, trace: &[u8]) -> Result<Line, Stop>
+    ensures { MatchResult result (λ line. line ≡ line_of_trace trace.now) (RefusedWith (λ e. head_of trace.now ≡ Err e)) }
 {
-    let head = read_head(trace)?;
-    let size = make_memory(heap, head)?;
-    Ok(ring_line(heap, size, head.kind)?)
+    let Head { kind, size } = read_head(trace)?;
+    let size = make_memory(heap, kind, size)?;
+    Ok(Line::Ring { size, kind })
 }
 
 // The line that is printed for a trace.
-fn printed(heap: Global, trace: &[u8]) -> Result<String, AllocError>
-    ensures { IfOk result (λ s. string_bytes s ≡ opening_line trace.now) }
+fn printed(heap: Global, trace: &[u8]) -> Result<Line, AllocError>
+    ensures { IfOk result (λ line. line ≡ line_of_trace trace.now) }
 {
     match opening(heap, trace) {
         Ok(line) => Ok(line),
-        Err(Stop::Refused(refusal)) => fault_line(heap, refusal.number(), refusal.place()),
+        Err(Stop::Refused(refusal)) => Ok(Line::from(refusal)),
         Err(Stop::OutOfMemory(error)) => Err(error),
     }
 }

@@ -1,10 +1,9 @@
 -- What a step makes of the facts of its own seat.
-use Rattle.std.proofs.Common.{◌≡◌, ℕ, ◌+◌, ◌-◌, ◌*◌, ◌<◌, ◌≤◌, true, leb, List, [], ◌∷◌, ◌++◌, length, set, Some, Option, sym, refl, ap, ◌∙◌, subst, subst₂, inl, inr, arith}
+use Rattle.std.proofs.Common.{◌≡◌, ℕ, ◌+◌, ◌-◌, ◌*◌, ◌<◌, ◌≤◌, true, leb, List, [], ◌∷◌, ◌++◌, length, set, Some, Option, Ok, sym, refl, ap, ◌∙◌, subst, subst₂, inl, inr, mul-le-mul_right, arith}
 use Rattle.std.proofs.lemmas.Bool.{cases_lt, cases_eq, cond-true, and_from, le-leb}
 use Rattle.std.proofs.lemmas.List.{length_push}
 use Rattle.memory.specs.declared.cells.Cell.{Cell}
 use Rattle.memory.specs.declared.cells.Limits.{Limits}
-use Rattle.memory.specs.declared.rules.Exchanged.TheVariants.{Done}
 use Rattle.memory.specs.Cells.{fits}
 use Rattle.memory.specs.Rules.{alike, answer_at, exchange_answer}
 use Rattle.memory.proofs.Looks.{look_inside}
@@ -18,7 +17,7 @@ use Rattle.ring.specs.Looks.{cell_at, previous, next, expected_round, outcome_of
 use Rattle.ring.specs.Histories.{History}
 use Rattle.ring.specs.Law.{Change, Account, ExchangesAs, TrueOf}
 use Rattle.ring.proofs.Indices.{previous_inside, next_inside, previous_next}
-use Rattle.ring.proofs.Places.{place, lap_le, lap_same}
+use Rattle.ring.proofs.Places.{place, lap_same}
 use Rattle.ring.proofs.Verdicts.{Due, PutMeans, TakeMeans}
 use Rattle.ring.proofs.Differences.{cell_path, alike_self}
 use Rattle.ring.proofs.Shape.{place_at, Stands, Shape, previous_later, not_before, set_rises, put_shape, take_shape}
@@ -160,7 +159,7 @@ module _ (S : ℕ) (limits : Limits) (cells : List Cell) (puts takes : List ℕ)
     pub put_worn : (o : Outcome) → PutMeans S limits v h p u (verdicts.Answer o) → (length puts ≡ limits.round * S) × (length puts < length takes + S)
     put_worn o d =
         let x = aims (expected_round p h) d.3 in
-        let y = lap_le S limits.round (expected_round p h) d.1 in
+        let y = mul-le-mul_right S d.1 in
         (omega (arith, sh.most), omega (arith, empty_place d.2, (sh.each h w.inside).high))
 
     pub put_full : (o : Outcome) → PutMeans S limits v h p u (verdicts.Note o) → length puts ≡ length takes + S
@@ -211,7 +210,7 @@ module _ (S : ℕ) (limits : Limits) (cells : List Cell) (puts takes : List ℕ)
         let c = sh.each h w.inside in
         let below : place_at S cells h < length puts = elim (cases_lt (place_at S cells h) (length puts)) [ inl m ↦ m | inr m ↦ absurd (omega (arith, c.empty m, d.2)) ] in
         let young : u'.round < limits.round =
-        elim (cases_lt u'.round limits.round) [ inl m ↦ m | inr m ↦ absurd (omega (arith, lap_le S limits.round u'.round m, sh.most)) ] in
+        elim (cases_lt u'.round limits.round) [ inl m ↦ m | inr m ↦ absurd (omega (arith, mul-le-mul_right S m, sh.most)) ] in
         record {
           carried = carried_on limits Take counts account [] look w.carried;
           none = w.none;
@@ -295,13 +294,13 @@ module _ (S : ℕ) (limits : Limits) (cells : List Cell) (puts takes : List ℕ)
         (and_from (leb (renewed task expected).value limits.value) (leb (renewed task expected).round limits.round)
         (le-leb (renewed task expected).value limits.value f.0) (le-leb (renewed task expected).round limits.round f.1))
 
-    done : account.others ≡ w.earlier → exchange_answer limits cells h expected new ≡ Done
+    done : account.others ≡ w.earlier → exchange_answer limits cells h expected new ≡ Ok tt
     done f =
-        ap (λ (o : Option Cell). answer_at limits o expected new) (look_inside cells h (omega (arith, w.inside, sh.size)))
+        ap (λ (o : Option Cell). answer_at limits o expected new tt) (look_inside cells h (omega (arith, w.inside, sh.size)))
         ∙ cond-true (fits limits new) _ _ new_fits
         ∙ cond-true (alike (cell_at cells h) expected) _ _ (rw (w.still f) (alike_self expected))
 
-    pub exchange_fails : (exchange_answer limits cells h expected new ≡ Done → ⊥) → AtStart S limits task (failure_counted (step_counted counts)) (stepped 1 [] look account)
+    pub exchange_fails : (exchange_answer limits cells h expected new ≡ Ok tt → ⊥) → AtStart S limits task (failure_counted (step_counted counts)) (stepped 1 [] look account)
     exchange_fails refused =
         let later : w.earlier < account.others =
         elim (cases_eq account.others w.earlier) [ inl f ↦ absurd (refused (done f)) | inr n ↦ omega (arith, n, w.some_earlier) ] in

@@ -1,12 +1,11 @@
 -- No index leaves the ring.
-use Rattle.std.proofs.Common.{ℕ, ◌<◌, ◌≤◌, List, [], ◌∷◌, set, sym, refl, ◌∙◌, subst, inl, inr, arith}
+use Rattle.std.proofs.Common.{ℕ, ◌<◌, ◌≤◌, List, [], ◌∷◌, set, Ok, Err, Result, sym, refl, ◌∙◌, subst, inl, inr, arith}
 use lib.ListN.{get_or-replicate}
 use Rattle.std.proofs.lemmas.Bool.{cases_eq}
 use Rattle.std.proofs.lemmas.List.{get_or-set_same, get_or-set_other, length-set}
 use Rattle.memory.specs.declared.cells.Cell.{Cell}
 use Rattle.memory.specs.declared.cells.Limits.{Limits}
-use Rattle.memory.specs.declared.rules.Exchanged.{Exchanged}
-use Rattle.memory.specs.declared.rules.Exchanged.TheVariants.{Done, Differs, Unfit, NoCell}
+use Rattle.memory.specs.declared.rules.Declined.{Declined}
 use Rattle.memory.specs.Rules.{exchange_answer}
 use Rattle.ring.specs.declared.board.Board.{Board}
 use Rattle.ring.specs.declared.calls.Call.{Call}
@@ -36,11 +35,9 @@ module _ (S : ℕ) (limits : Limits) (cells : List Cell) (hints : Hints) (ph : h
   look_inside call i u (verdicts.Answer o) l = (ph, th, tt)
   look_inside call i u verdicts.Onward l = (ph, th, next_inside S i l)
 
-  answer_inside : (call : Call) (i : ℕ) (e : Cell) (a : Exchanged) → i < S → IndexInside S (after_answer S call i e a)
-  answer_inside call i e Done l = next_inside S i l
-  answer_inside call i e Differs l = tt
-  answer_inside call i e Unfit l = tt
-  answer_inside call i e NoCell l = tt
+  answer_inside : (call : Call) (i : ℕ) (e : Cell) (a : Result (Unit {0}) Declined) → i < S → IndexInside S (after_answer S call i e a)
+  answer_inside call i e (Ok done) l = next_inside S i l
+  answer_inside call i e (Err cause) l = tt
 
   seat_inside : (t : Seat) → IndexInside S t → StepInside (step_seat limits S cells hints t)
   seat_inside Idle l = (ph, th, tt)

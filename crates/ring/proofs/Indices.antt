@@ -1,6 +1,6 @@
 -- Indices of a ring of S cells: the one before and the one after, and those in the hints.
 use Rattle.std.proofs.Common.{◌≡◌, ℕ, ◌+◌, ◌-◌, ◌%◌, ◌<◌, ◌≤◌, ◌⊎◌, sym, ap, ◌∙◌, inl, inr, mod-eq_of_lt, arith}
-use native.Mathlib.Nat.{mod_self, add-mod_right}
+use native.Mathlib.Nat.{add-mod_right}
 use Rattle.std.proofs.lemmas.Bool.{cases_lt, cases_eq}
 use Rattle.std.proofs.lemmas.Bool.Decides.{nat_tests}
 use Rattle.ring.specs.declared.calls.Task.{Task}
@@ -36,7 +36,7 @@ next_inside S i l = omega (arith, next_is S i l)
 pub previous_next : (S i : ℕ) → i < S → previous S (next S i) ≡ i
 previous_next S i l = omega (arith, next_is S i l, previous_is S (next S i) (next_inside S i l))
 
--- inside the ring they are remainders
+-- inside the ring the one before is a remainder
 pub previous_remainder : (S i : ℕ) → i < S → previous S i ≡ (i + S - 1) % S
 previous_remainder S i l =
     elim (previous_is S i l) [
@@ -44,13 +44,6 @@ previous_remainder S i l =
       | inr e ↦
           let a : i + S - 1 ≡ previous S i + S = omega (arith, e) in
           sym (ap (λ n. n % S) a ∙ add-mod_right (previous S i) S ∙ mod-eq_of_lt (previous_inside S i l))
-    ]
-
-pub next_remainder : (S i : ℕ) → i < S → next S i ≡ (i + 1) % S
-next_remainder S i l =
-    elim (next_is S i l) [
-      | inl e ↦ e.1 ∙ sym (ap (λ n. n % S) e.0 ∙ mod_self S)
-      | inr e ↦ e.1 ∙ sym (mod-eq_of_lt e.0)
     ]
 
 -- THE HINTS, read and written

@@ -1,5 +1,5 @@
 -- What is true of a ring and of each of its seats after any dealings, and that the facts of a seat outlive what other seats do.
-use Rattle.std.proofs.Common.{◌≡◌, ℕ, ◌+◌, ◌*◌, ◌<◌, ◌≤◌, min, List, [], ◌++◌, length, Option, arith}
+use Rattle.std.proofs.Common.{◌≡◌, ℕ, ◌+◌, ◌*◌, ◌<◌, ◌≤◌, min, Bool, if◌then◌else◌, List, [], ◌++◌, length, Option, arith}
 use Rattle.memory.specs.declared.cells.Cell.{Cell}
 use Rattle.memory.specs.declared.cells.Limits.{Limits}
 use Rattle.ring.specs.declared.calls.Call.{Call}
@@ -110,6 +110,10 @@ pub record RingSound (S : ℕ) (limits : Limits) (puts takes : List ℕ) (accoun
   pub put_hint : ring.board.hints.put < S
   pub take_hint : ring.board.hints.take < S
   pub seats : (s : ℕ) → s < 16 → SeatSound S limits ring.cells (length puts) (length takes) (seat_at ring s) (accounts s)
+
+-- 1 where the test holds, 0 where not
+abbrev pub one : Bool → ℕ
+one b = if b then 1 else 0
 
 -- a call after a step of its own: f failed exchanges more, these changes, this last look
 abbrev pub stepped : ℕ → List Change → Option History → Account → Account

@@ -1,11 +1,10 @@
 -- What every accepted begin and every accepted step keep is kept by all dealings.
-use Rattle.std.proofs.Common.{◌≡◌, ℕ, zero, suc, ◌<◌, Bool, true, false, ◌||◌, eqb, ltb, List, [], ◌∷◌, Err, refl, arith}
+use Rattle.std.proofs.Common.{◌≡◌, ℕ, zero, suc, ◌<◌, Bool, true, false, ◌||◌, eqb, ltb, List, [], ◌∷◌, Some, None, Option, Err, refl, arith}
 use Rattle.std.proofs.lemmas.Bool.{cond_both, ltb-false, eqb-false, or_parts, not-false}
 use Rattle.memory.specs.declared.cells.Limits.{Limits}
 use Rattle.memory.specs.declared.refusals.Refusal.{Refusal}
 use Rattle.memory.specs.Refusals.{unless}
-use Rattle.ring.specs.declared.calls.Progress.{Progress}
-use Rattle.ring.specs.declared.calls.Progress.TheVariants.{On, Answered}
+use Rattle.ring.specs.declared.calls.Answer.{Answer}
 use Rattle.ring.specs.declared.calls.Task.{Task}
 use Rattle.ring.specs.declared.calls.Task.TheVariants.{Put, Take}
 use Rattle.ring.specs.declared.dealings.Dealing.{Dealing}
@@ -21,9 +20,9 @@ NoCause [] = Unit {0}
 NoCause (cause ∷ causes) = (cause.0 ≡ false) × NoCause causes
 
 module _ (limits : Limits) (P : History → Ring → Type 0)
-    (on-begin : (H : History) (r : Ring) → P H r → (s : ℕ) (task : Task) → s < 16 → is_idle (seat_at r s) ≡ true → Fitting limits task → P (begin_moment s task r (begun r s task) ∷ H) (begun r s task))
-    (on_step : (H : History) (r : Ring) → P H r → (s : ℕ) → s < 16 → is_idle (seat_at r s) ≡ false → P (step_moment s r (advanced limits r s).ring (advanced limits r s).progress ∷ H) (advanced limits r s).ring)
-    (busy_on : (H : History) (r : Ring) → P H r → (s : ℕ) → s < 16 → is_idle (seat_at r s) ≡ false → (advanced limits r s).progress ≡ On → is_idle (seat_at (advanced limits r s).ring s) ≡ false) where
+    (on_begin : (H : History) (r : Ring) → P H r → (s : ℕ) (task : Task) → s < 16 → is_idle (seat_at r s) ≡ true → Fitting limits task → P (begin_moment s task r (begun r s task) ∷ H) (begun r s task))
+    (on_step : (H : History) (r : Ring) → P H r → (s : ℕ) → s < 16 → is_idle (seat_at r s) ≡ false → P (step_moment s r (advanced limits r s).ring (advanced limits r s).answer ∷ H) (advanced limits r s).ring)
+    (busy_on : (H : History) (r : Ring) → P H r → (s : ℕ) → s < 16 → is_idle (seat_at r s) ≡ false → (advanced limits r s).answer ≡ None → is_idle (seat_at (advanced limits r s).ring s) ≡ false) where
   -- a refused call leaves the history and the ring as they were
   settled_keeps : {X : Type 0} (causes : List (Bool × Refusal)) (n : ℕ) (r after : Ring) (x : X) (more : Ring → X → History) (H : History) → P H r → (NoCause causes → P (more after x) after) → P (if_accepted (settled (unless causes n) r after x) more H) (settled (unless causes n) r after x).ring
   settled_keeps [] n r after x more H kept go = go tt
@@ -45,27 +44,27 @@ module _ (limits : Limits) (P : History → Ring → Type 0)
   run_keeps (suc n) r s H sits busy kept =
       go (on_step H r kept s sits busy)
       (λ e. run_keeps n (advanced limits r s).ring s X sits (busy_on H r kept s sits busy e) (on_step H r kept s sits busy))
-      (advanced limits r s).progress refl
+      (advanced limits r s).answer refl
     where
       X : History
-      X = step_moment s r (advanced limits r s).ring (advanced limits r s).progress ∷ H
+      X = step_moment s r (advanced limits r s).ring (advanced limits r s).answer ∷ H
 
-      go : P X (advanced limits r s).ring → ((advanced limits r s).progress ≡ On → P (run_moments limits n (advanced limits r s).ring s X) (run limits n (advanced limits r s).ring s).ring) → (p : Progress) → (advanced limits r s).progress ≡ p → P (unless_answered p X (run_moments limits n (advanced limits r s).ring s X)) (unless_answered p (advanced limits r s) (run limits n (advanced limits r s).ring s)).ring
-      go now more (Answered a) e = now
-      go now more On e = more e
+      go : P X (advanced limits r s).ring → ((advanced limits r s).answer ≡ None → P (run_moments limits n (advanced limits r s).ring s X) (run limits n (advanced limits r s).ring s).ring) → (p : Option Answer) → (advanced limits r s).answer ≡ p → P (unless_answered p X (run_moments limits n (advanced limits r s).ring s X)) (unless_answered p (advanced limits r s) (run limits n (advanced limits r s).ring s)).ring
+      go now more (Some a) e = now
+      go now more None e = more e
 
   pub deal_keeps : (d : Dealing) (H : History) (r : Ring) → P H r → P (observed limits r d H) (deal limits r d).ring
   deal_keeps (BeginPut s v) H r kept =
       settled_keeps (put_causes limits r s v) s r (begun r s (Put v)) tt (λ after _. begin_moment s (Put v) r after ∷ H) H kept
-      (λ w. on-begin H r kept s (Put v) (seat_within s w.0) (not-false (is_idle (seat_at r s)) w.1.1.0) (value_fits v w.1.1.1.0))
+      (λ w. on_begin H r kept s (Put v) (seat_within s w.0) (not-false (is_idle (seat_at r s)) w.1.1.0) (value_fits v w.1.1.1.0))
   deal_keeps (BeginTake s) H r kept =
       settled_keeps (begin_causes r s []) s r (begun r s Take) tt (λ after _. begin_moment s Take r after ∷ H) H kept
-      (λ w. on-begin H r kept s Take (seat_within s w.0) (not-false (is_idle (seat_at r s)) w.1.1.0) tt)
+      (λ w. on_begin H r kept s Take (seat_within s w.0) (not-false (is_idle (seat_at r s)) w.1.1.0) tt)
   deal_keeps (Step s) H r kept =
-      settled_keeps (step_causes r s []) s r (advanced limits r s).ring (advanced limits r s).progress (λ after p. step_moment s r after p ∷ H) H kept
+      settled_keeps (step_causes r s []) s r (advanced limits r s).ring (advanced limits r s).answer (λ after p. step_moment s r after p ∷ H) H kept
       (λ w. on_step H r kept s (seat_within s w.0) w.1.1.0)
   deal_keeps (RunAlone s n) H r kept =
-      settled_keeps (run_causes r s n) s r (run limits n r s).ring (run limits n r s).progress (λ _ _. run_moments limits n r s H) H kept
+      settled_keeps (run_causes r s n) s r (run limits n r s).ring (run limits n r s).answer (λ _ _. run_moments limits n r s H) H kept
       (λ w. run_keeps n r s H (seat_within s w.0) w.1.1.0 kept)
 
   pub dealings_keep : (ds : List Dealing) (H : History) (r : Ring) → P H r → P (observed_from limits r ds H) (ring_after limits r ds)

@@ -1,14 +1,15 @@
 -- What one moment more makes of what a history says.
-use Rattle.std.proofs.Common.{◌≡◌, ℕ, ◌+◌, Bool, true, false, cond, eqb, List, [], ◌∷◌, ◌++◌, map, length, Some, None, refl, ap, ◌∙◌, zero-add}
+use Rattle.std.proofs.Common.{◌≡◌, ℕ, ◌+◌, Bool, true, false, cond, eqb, List, [], ◌∷◌, ◌++◌, map, length, Some, None, Option, refl, ap, ◌∙◌, zero-add}
 use Rattle.std.proofs.lemmas.Bool.{eq-eqb}
 use Rattle.std.proofs.lemmas.List.{append-nil}
+use Rattle.std.proofs.lemmas.List.Sums.{sum_by-cons}
 use Rattle.memory.specs.declared.cells.Limits.{Limits}
-use Rattle.ring.specs.declared.calls.Progress.{Progress}
+use Rattle.ring.specs.declared.calls.Answer.{Answer}
 use Rattle.ring.specs.declared.calls.Task.{Task}
 use Rattle.ring.specs.Rings.{Ring, seat_at}
 use Rattle.ring.specs.Histories.{Moment, History, begin_moment, step_moment}
-use Rattle.ring.specs.Law.{Change, changes, fails, stands_at_look, by_put, numbers_put, numbers_taken, since, one, steps_of, failures_of, changes_of, others_of, begun_as, last_look, Account, account_of}
-use Rattle.ring.proofs.Invariant.{outdone, stepped}
+use Rattle.ring.specs.Law.{Change, changes, fails, stands_at_look, by_put, numbers_put, numbers_taken, since, steps_of, failures_of, changes_of, others_of, begun_as, last_look, Account, account_of}
+use Rattle.ring.proofs.Invariant.{outdone, stepped, one}
 
 -- A MOMENT OF ANOTHER SEAT
 module _ (limits : Limits) (i : ℕ) (x : Moment) (H : History) (n : eqb x.seat i ≡ false) where
@@ -16,7 +17,7 @@ module _ (limits : Limits) (i : ℕ) (x : Moment) (H : History) (n : eqb x.seat 
   since_else = rw n
 
   others_else : others_of i (since i (x ∷ H)) ≡ length (changes x) + others_of i (since i H)
-  others_else = ap (others_of i) since_else ∙ rw n
+  others_else = ap (others_of i) since_else ∙ sum_by-cons _ x (since i H) ∙ rw n
 
   -- but for the changes of others, the call is as it was
   call_with : (m : ℕ) → others_of i (since i (x ∷ H)) ≡ m → account_of limits i (x ∷ H) ≡ record {
@@ -29,9 +30,9 @@ module _ (limits : Limits) (i : ℕ) (x : Moment) (H : History) (n : eqb x.seat 
   }
   call_with m e =
       let task : begun_as i (x ∷ H) ≡ begun_as i H = rw n in
-      let steps : steps_of i (since i (x ∷ H)) ≡ steps_of i (since i H) = ap (steps_of i) since_else ∙ rw n (zero-add (steps_of i (since i H))) in
+      let steps : steps_of i (since i (x ∷ H)) ≡ steps_of i (since i H) = ap (steps_of i) since_else ∙ sum_by-cons _ x (since i H) ∙ rw n (zero-add (steps_of i (since i H))) in
       let failed : failures_of limits i (since i (x ∷ H)) ≡ failures_of limits i (since i H) =
-      ap (failures_of limits i) since_else ∙ rw n (zero-add (failures_of limits i (since i H))) in
+      ap (failures_of limits i) since_else ∙ sum_by-cons _ x (since i H) ∙ rw n (zero-add (failures_of limits i (since i H))) in
       let made : changes_of i (since i (x ∷ H)) ≡ changes_of i (since i H) = ap (changes_of i) since_else ∙ rw n in
       let look : last_look i (x ∷ H) ≡ last_look i H = rw n in
       λ k. record { task = task k; steps = steps k; failed = failed k; made = made k; others = e k; look = look k }
@@ -43,7 +44,7 @@ module _ (limits : Limits) (i : ℕ) (x : Moment) (H : History) (n : eqb x.seat 
   other_changes c e = call_with (1 + others_of i (since i H)) (others_else ∙ rw e)
 
 -- A STEP OF ITS OWN
-module _ (limits : Limits) (s : ℕ) (r r' : Ring) (p : Progress) (H : History) where
+module _ (limits : Limits) (s : ℕ) (r r' : Ring) (p : Option Answer) (H : History) where
   abbrev x' : Moment
   x' = step_moment s r r' p
 
@@ -56,11 +57,11 @@ module _ (limits : Limits) (s : ℕ) (r r' : Ring) (p : Progress) (H : History) 
   pub own_step : account_of limits s (x' ∷ H) ≡ stepped (one (fails limits r.cells (seat_at r s))) (changes x') (cond (stands_at_look (seat_at r s)) (Some (x' ∷ H)) (last_look s H)) (account_of limits s H)
   own_step =
       let task : begun_as s (x' ∷ H) ≡ begun_as s H = rw self in
-      let steps : steps_of s (since s (x' ∷ H)) ≡ 1 + steps_of s (since s H) = ap (steps_of s) since_own ∙ rw self in
+      let steps : steps_of s (since s (x' ∷ H)) ≡ 1 + steps_of s (since s H) = ap (steps_of s) since_own ∙ sum_by-cons _ x' (since s H) ∙ rw self in
       let failed : failures_of limits s (since s (x' ∷ H)) ≡ one (fails limits r.cells (seat_at r s)) + failures_of limits s (since s H) =
-      ap (failures_of limits s) since_own ∙ rw self in
+      ap (failures_of limits s) since_own ∙ sum_by-cons _ x' (since s H) ∙ rw self in
       let made : changes_of s (since s (x' ∷ H)) ≡ changes x' ++ changes_of s (since s H) = ap (changes_of s) since_own ∙ rw self in
-      let others : others_of s (since s (x' ∷ H)) ≡ others_of s (since s H) = ap (others_of s) since_own ∙ rw self (zero-add (others_of s (since s H))) in
+      let others : others_of s (since s (x' ∷ H)) ≡ others_of s (since s H) = ap (others_of s) since_own ∙ sum_by-cons _ x' (since s H) ∙ rw self (zero-add (others_of s (since s H))) in
       let look : last_look s (x' ∷ H) ≡ cond (stands_at_look (seat_at r s)) (Some (x' ∷ H)) (last_look s H) = rw self in
       λ k. record { task = task k; steps = steps k; failed = failed k; made = made k; others = others k; look = look k }
 

@@ -11,15 +11,12 @@ abbrev pub place : ℕ → ℕ → Cell → ℕ
 place S i c = c.round * S + i
 
 -- LAPS: a round more is S places more
-pub lap_le : (S a b : ℕ) → a ≤ b → a * S ≤ b * S
-lap_le S a b h = mul-le-mul_right S h
-
 pub lap_lt : (S a b : ℕ) → a < b → a * S + S ≤ b * S
 lap_lt S a b h = omega (arith, mul-le-mul_right S h)
 
 -- two laps that begin less than S places apart
 lap_near : (S a b : ℕ) → a * S < b * S + S → a * S ≤ b * S
-lap_near S a b h = elim (cases_lt b a) [ inl k ↦ omega (arith, lap_lt S b a k) | inr k ↦ lap_le S a b k ]
+lap_near S a b h = elim (cases_lt b a) [ inl k ↦ omega (arith, lap_lt S b a k) | inr k ↦ mul-le-mul_right S k ]
 
 pub lap_same : (S a b : ℕ) → 0 < S → a * S ≡ b * S → a ≡ b
 lap_same S a b z e =
@@ -54,7 +51,7 @@ before_no S i j a b hi hj e =
       | inl t ↦
           let k : b.round < a.round = omega (arith, eqb-false a.round b.round t) in
           omega (arith, lap_lt S b.round a.round k)
-      | inr t ↦ omega (arith, lap_le S b.round a.round m, ltb-false i j t)
+      | inr t ↦ omega (arith, mul-le-mul_right S m, ltb-false i j t)
     ]
 
 -- NEIGHBOURS: among S places from T on, the cell at index h, of round a, and the cell before it, of round p

@@ -1,19 +1,17 @@
 -- A step of a seat keeps what is true of the ring, and an answer that it gives is as the law says.
-use Rattle.std.proofs.Common.{◌≡◌, ℕ, ◌+◌, ◌*◌, ◌<◌, Bool, true, false, cond, eqb, List, [], ◌∷◌, ◌++◌, length, set, Some, Option, sym, refl, ap, ◌∙◌, subst, subst₂, inl, inr, arith}
+use Rattle.std.proofs.Common.{◌≡◌, ℕ, ◌+◌, ◌*◌, ◌<◌, Bool, true, false, cond, eqb, List, [], ◌∷◌, ◌++◌, length, set, Some, None, Option, Ok, Err, Result, is_err, if◌then◌else◌, sym, refl, ap, ◌∙◌, subst, subst₂, inl, inr, arith}
 use Rattle.std.proofs.lemmas.Bool.{cases_lt, true≢false, eq-eqb, ne_eqb, and_left}
 use Rattle.memory.specs.declared.cells.Cell.{Cell}
 use Rattle.memory.specs.declared.cells.Limits.{Limits}
-use Rattle.memory.specs.declared.rules.Exchanged.{Exchanged}
-use Rattle.memory.specs.declared.rules.Exchanged.TheVariants.{Done, Differs, Unfit, NoCell}
+use Rattle.memory.specs.declared.rules.Declined.{Declined}
+use Rattle.memory.specs.declared.rules.Declined.TheVariants.{Unfit, Differs}
 use Rattle.memory.specs.Cells.{fits}
 use Rattle.memory.specs.Rules.{alike, answer_at, exchange_answer, stored_by}
 use Rattle.memory.proofs.Looks.{look_inside, look_outside}
 use Rattle.ring.specs.declared.calls.Answer.{Answer}
 use Rattle.ring.specs.declared.calls.Counts.{Counts}
 use Rattle.ring.specs.declared.calls.Outcome.{Outcome}
-use Rattle.ring.specs.declared.calls.Outcome.TheVariants.{Placed, Empty, Full, Taken, Worn}
-use Rattle.ring.specs.declared.calls.Progress.{Progress}
-use Rattle.ring.specs.declared.calls.Progress.TheVariants.{On, Answered}
+use Rattle.ring.specs.declared.calls.Outcome.TheVariants.{Empty, Full, Worn}
 use Rattle.ring.specs.declared.calls.Task.{Task}
 use Rattle.ring.specs.declared.calls.Task.TheVariants.{Put, Take}
 use Rattle.ring.specs.declared.looks.Verdict.{Verdict}
@@ -25,11 +23,11 @@ use Rattle.ring.specs.Looks.{cell_at, previous, next, put_verdict, take_verdict,
 use Rattle.ring.specs.Seats.{Stepped, hint_of, hinted, goes_on, ends, after_look, after_answer, step_seat}
 use Rattle.ring.specs.Rings.{Ring, seat_at, is_idle, after_step}
 use Rattle.ring.specs.Histories.{Moment, History, steps, step_moment}
-use Rattle.ring.specs.Law.{Change, Account, changes, declined, fails, is_put, by_put, stands_at_look, one, last_look, account_of, numbers_put, numbers_taken, ExchangesAs, TrueOf, AnsweredCall, AtAnswer}
+use Rattle.ring.specs.Law.{Change, Account, changes, fails, is_put, by_put, stands_at_look, last_look, account_of, numbers_put, numbers_taken, ExchangesAs, TrueOf, AnsweredCall, AtAnswer}
 use Rattle.ring.proofs.Indices.{hint_inside, hinted_inside}
 use Rattle.ring.proofs.Verdicts.{PutMeans, TakeMeans, put_verdict_lem, take_verdict_lem}
 use Rattle.ring.proofs.Differences.{differences_none, differences_one, alike_same}
-use Rattle.ring.proofs.Invariant.{SeatSound, RingSound, AtLook, AtExchange, AtNote, carrying, renewed, stepped}
+use Rattle.ring.proofs.Invariant.{SeatSound, RingSound, AtLook, AtExchange, AtNote, carrying, renewed, stepped, one}
 use Rattle.ring.proofs.Attempts.{price_open, carried_on, from_start, from_first, few_looks, puts_with, takes_with, one_more, exchanged_shape, exchanged_rises, exchanged_value, put_exchanges, put_worn, put_full, put_notes, put_onward, take_exchanges, take_none, take_not_worn, take_onward, exchange_fails, exchange_done}
 use Rattle.ring.proofs.Pasts.{other_quiet, other_changes, own_step, put_quiet, taken_quiet, put_one, taken_none, taken_one, put_none}
 use Rattle.ring.proofs.Moves.{with_seat, quiet, changing}
@@ -42,23 +40,22 @@ Holds S limits H r = RingSound S limits (numbers_put H) (numbers_taken H) (λ i.
 abbrev pub HoldsAfter : ℕ → Limits → History → Ring → ℕ → Stepped → Type 0
 HoldsAfter S limits H r s x =
     let m = after_step r s x in
-    let X = step_moment s r m.ring m.progress ∷ H in
-    Holds S limits X m.ring × AtAnswer S limits (steps m.progress) (account_of limits s X)
+    let X = step_moment s r m.ring m.answer ∷ H in
+    Holds S limits X m.ring × AtAnswer S limits (steps m.answer) (account_of limits s X)
 
 -- AN EXCHANGE THAT IS DONE found the cell that it expected
-not_done : (a b : Exchanged) → declined a ≡ true → a ≡ b → b ≡ Done → ⊥
-not_done a b d e f = true≢false (sym d ∙ ap declined (e ∙ f))
+abbrev answered : Bool → Bool → Result (Unit {0}) Declined
+answered a b = if a then if b then Ok tt else Err Differs else Err Unfit
 
-done_alike : (a b : Bool) → cond a (cond b Done Differs) Unfit ≡ Done → b ≡ true
+done_alike : (a b : Bool) → answered a b ≡ Ok tt → b ≡ true
 done_alike true true e = refl
-done_alike true false e = absurd (true≢false (ap declined e))
-done_alike false b e = absurd (true≢false (ap declined e))
+done_alike a b e = absurd (true≢false (ap is_err e))
 
-done_found : (limits : Limits) (cells : List Cell) (h : ℕ) (e n : Cell) → exchange_answer limits cells h e n ≡ Done → (h < length cells) × (cell_at cells h ≡ e)
+done_found : (limits : Limits) (cells : List Cell) (h : ℕ) (e n : Cell) → exchange_answer limits cells h e n ≡ Ok tt → (h < length cells) × (cell_at cells h ≡ e)
 done_found limits cells h e n d =
     elim (cases_lt h (length cells)) [
-      | inl l ↦ (l, alike_same (cell_at cells h) e (done_alike (fits limits n) (alike (cell_at cells h) e) (sym (ap (λ (o : Option Cell). answer_at limits o e n) (look_inside cells h l)) ∙ d)))
-      | inr l ↦ absurd (true≢false (ap declined (sym (ap (λ (o : Option Cell). answer_at limits o e n) (look_outside cells h l)) ∙ d)))
+      | inl l ↦ (l, alike_same (cell_at cells h) e (done_alike (fits limits n) (alike (cell_at cells h) e) (sym (ap (λ (o : Option Cell). answer_at limits o e n tt) (look_inside cells h l)) ∙ d)))
+      | inr l ↦ absurd (true≢false (ap is_err (sym (ap (λ (o : Option Cell). answer_at limits o e n tt) (look_outside cells h l)) ∙ d)))
     ]
 
 -- and the numbers put and taken are those of before, with the one that it put or took
@@ -88,7 +85,7 @@ module _ (limits : Limits) (H : History) (r : Ring) (inv : Holds r.board.size li
   Sound t c = SeatSound S limits r.cells (length Puts) (length Takes) t c
 
   -- A STEP THAT CHANGES NO CELL, from a seat that stood at t, to the seat t'
-  module _ (t : Seat) (is : seat_at r s ≡ t) (hints : Hints) (t' : Seat) (p : Progress) where
+  module _ (t : Seat) (is : seat_at r s ≡ t) (hints : Hints) (t' : Seat) (p : Option Answer) where
     abbrev x : Moment
     x = step_moment s r (with_seat r s r.cells hints t') p
 
@@ -122,17 +119,17 @@ module _ (limits : Limits) (H : History) (r : Ring) (inv : Holds r.board.size li
         unchanged (λ p t. RingSound S limits p t (λ i. account_of limits i (x ∷ H)) (with_seat r s r.cells hints t')) i
 
   -- one that goes on
-  on_to : (t : Seat) (is : seat_at r s ≡ t) (t' : Seat) → Sound t' (quietly t is r.board.hints t' On) → HoldsAfter S limits H r s (goes_on r.cells r.board.hints t')
-  on_to t is t' own = (quiet_holds t is r.board.hints t' On inv.put_hint inv.take_hint own, tt)
+  on_to : (t : Seat) (is : seat_at r s ≡ t) (t' : Seat) → Sound t' (quietly t is r.board.hints t' None) → HoldsAfter S limits H r s (goes_on r.cells r.board.hints t')
+  on_to t is t' own = (quiet_holds t is r.board.hints t' None inv.put_hint inv.take_hint own, tt)
 
   -- one that answers
-  ends_with : (t : Seat) (is : seat_at r s ≡ t) (hints : Hints) (task : Task) (k : Counts) (o : Outcome) → hints.put < S → hints.take < S → AnsweredCall S limits (quietly t is hints Idle (Answered (record { outcome = o; counts = k }))) (record { outcome = o; counts = k }) → HoldsAfter S limits H r s (ends r.cells hints (carrying task k) o)
+  ends_with : (t : Seat) (is : seat_at r s ≡ t) (hints : Hints) (task : Task) (k : Counts) (o : Outcome) → hints.put < S → hints.take < S → AnsweredCall S limits (quietly t is hints Idle (Some (record { outcome = o; counts = k }))) (record { outcome = o; counts = k }) → HoldsAfter S limits H r s (ends r.cells hints (carrying task k) o)
   ends_with t is hints task k o ph th w =
       let a : Answer = record { outcome = o; counts = k } in
-      (quiet_holds t is hints Idle (Answered a) ph th tt, subst (λ (c : Account). AnsweredCall S limits c a) (sym (own_quiet t is hints Idle (Answered a))) w)
+      (quiet_holds t is hints Idle (Some a) ph th tt, subst (λ (c : Account). AnsweredCall S limits c a) (sym (own_quiet t is hints Idle (Some a))) w)
 
   -- one that answers at a look
-  ends_look : (task : Task) (h : ℕ) (p : Cell) (k : Counts) (is : seat_at r s ≡ Look (carrying task k) h p) (o : Outcome) (w : AtLook S limits r.cells (length Puts) (length Takes) task h p k account) → ExchangesAs task o [] → TrueOf S limits o (Some (x (Look (carrying task k) h p) is r.board.hints Idle (Answered (record { outcome = o; counts = step_counted k })) ∷ H)) → HoldsAfter S limits H r s (ends r.cells r.board.hints (carrying task (step_counted k)) o)
+  ends_look : (task : Task) (h : ℕ) (p : Cell) (k : Counts) (is : seat_at r s ≡ Look (carrying task k) h p) (o : Outcome) (w : AtLook S limits r.cells (length Puts) (length Takes) task h p k account) → ExchangesAs task o [] → TrueOf S limits o (Some (x (Look (carrying task k) h p) is r.board.hints Idle (Some (record { outcome = o; counts = step_counted k })) ∷ H)) → HoldsAfter S limits H r s (ends r.cells r.board.hints (carrying task (step_counted k)) o)
   ends_look task h p k is o w exchanges truth =
       let told = carried_on limits task k account [] (last_look s H) w.carried in
       ends_with (Look (carrying task k) h p) is r.board.hints task (step_counted k) o inv.put_hint inv.take_hint
@@ -151,13 +148,13 @@ module _ (limits : Limits) (H : History) (r : Ring) (inv : Holds r.board.size li
   look_put v h p k is w (verdicts.Answer o) d =
       subst (λ (o' : Outcome). HoldsAfter S limits H r s (ends r.cells r.board.hints (carrying (Put v) (step_counted k)) o')) (sym d.0)
       (ends_look (Put v) h p k is Worn w refl
-      (unchanged (Look (carrying (Put v) k) h p) is r.board.hints Idle (Answered (record { outcome = Worn; counts = step_counted k })) (λ p t. (length p ≡ limits.round * S) × (length p < length t + S))
+      (unchanged (Look (carrying (Put v) k) h p) is r.board.hints Idle (Some (record { outcome = Worn; counts = step_counted k })) (λ p t. (length p ≡ limits.round * S) × (length p < length t + S))
       (put_worn S limits r.cells Puts Takes inv.shape v h p k account (last_look s H) w o d)))
   look_put v h p k is w (verdicts.Note o) d =
       subst (λ (o' : Outcome). HoldsAfter S limits H r s (goes_on r.cells r.board.hints (Note (carrying (Put v) (step_counted k)) h o'))) (sym d.0)
       (on_to (Look (carrying (Put v) k) h p) is (Note (carrying (Put v) (step_counted k)) h Full)
       (put_notes S limits r.cells Puts Takes inv.shape v h p k account (last_look s H) w _
-      (unchanged (Look (carrying (Put v) k) h p) is r.board.hints (Note (carrying (Put v) (step_counted k)) h Full) On (λ p t. length p ≡ length t + S)
+      (unchanged (Look (carrying (Put v) k) h p) is r.board.hints (Note (carrying (Put v) (step_counted k)) h Full) None (λ p t. length p ≡ length t + S)
       (put_full S limits r.cells Puts Takes inv.shape v h p k account (last_look s H) w o d))))
   look_put v h p k is w verdicts.Onward d =
       on_to (Look (carrying (Put v) k) h p) is (Look (carrying (Put v) (step_counted k)) (next S h) (cell_at r.cells h)) (put_onward S limits r.cells Puts Takes inv.shape v h p k account _ w d)
@@ -167,15 +164,12 @@ module _ (limits : Limits) (H : History) (r : Ring) (inv : Holds r.board.size li
       on_to (Look (carrying Take k) h p) is (Exchange (carrying Take (step_counted k)) h e n) (take_exchanges S limits r.cells Puts Takes inv.shape h p k account _ w e n d)
   look_take h p k is w (verdicts.Answer Empty) d =
       ends_look Take h p k is Empty w refl
-      (unchanged (Look (carrying Take k) h p) is r.board.hints Idle (Answered (record { outcome = Empty; counts = step_counted k })) (λ p t. length p ≡ length t + 0)
+      (unchanged (Look (carrying Take k) h p) is r.board.hints Idle (Some (record { outcome = Empty; counts = step_counted k })) (λ p t. length p ≡ length t + 0)
       (take_none S limits r.cells Puts Takes inv.shape h p k account (last_look s H) w d))
   look_take h p k is w (verdicts.Answer Worn) d = absurd (take_not_worn S limits r.cells Puts Takes inv.shape h p k account (last_look s H) w d)
-  look_take h p k is w (verdicts.Answer Placed) d = absurd d
-  look_take h p k is w (verdicts.Answer Full) d = absurd d
-  look_take h p k is w (verdicts.Answer (Taken n)) d = absurd d
-  look_take h p k is w (verdicts.Note o) d = absurd d
   look_take h p k is w verdicts.Onward d =
       on_to (Look (carrying Take k) h p) is (Look (carrying Take (step_counted k)) (next S h) (cell_at r.cells h)) (take_onward S limits r.cells Puts Takes inv.shape h p k account _ w d)
+  look_take h p k is w verdict d = absurd d
 
   look_step : (task : Task) (h : ℕ) (p : Cell) (k : Counts) (is : seat_at r s ≡ Look (carrying task k) h p) → Sound (Look (carrying task k) h p) account → HoldsAfter S limits H r s (step_seat limits S r.cells r.board.hints (Look (carrying task k) h p))
   look_step (Put v) h p k is w = look_put v h p k is w (put_verdict limits S v h p (cell_at r.cells h)) (put_verdict_lem S limits h p (cell_at r.cells h) w.inside v)
@@ -186,33 +180,33 @@ module _ (limits : Limits) (H : History) (r : Ring) (inv : Holds r.board.size li
     abbrev t₀ : Seat
     t₀ = Exchange (carrying task k) h e n
 
-    fails_with : (a : Exchanged) → declined a ≡ true → exchange_answer limits r.cells h e n ≡ a → HoldsAfter S limits H r s (goes_on r.cells r.board.hints (Start (carrying task (failure_counted (step_counted k)))))
-    fails_with a d f =
+    fails_with : (cause : Declined) → exchange_answer limits r.cells h e n ≡ Err cause → HoldsAfter S limits H r s (goes_on r.cells r.board.hints (Start (carrying task (failure_counted (step_counted k)))))
+    fails_with cause f =
         let t' : Seat = Start (carrying task (failure_counted (step_counted k))) in
-        let lost : one (declined (exchange_answer limits r.cells h e n)) ≡ 1 = ap (λ (b : Exchanged). one (declined b)) f ∙ ap one d in
+        let lost : one (is_err (exchange_answer limits r.cells h e n)) ≡ 1 = ap (λ (a : Result (Unit {0}) Declined). one (is_err a)) f in
         on_to t₀ is t'
         (subst (λ (m : ℕ). Sound t' (stepped m [] (last_look s H) account)) (sym lost)
-        (exchange_fails S limits r.cells Puts Takes inv.shape task h e n k account (last_look s H) w (λ g. not_done a (exchange_answer limits r.cells h e n) d (sym f) g)))
+        (exchange_fails S limits r.cells Puts Takes inv.shape task h e n k account (last_look s H) w (λ g. true≢false (ap is_err (sym f ∙ g)))))
 
     abbrev change : Change
     change = record { was = cell_at r.cells h; is = n }
 
-    done_with : exchange_answer limits r.cells h e n ≡ Done → HoldsAfter S limits H r s (goes_on (set r.cells h n) r.board.hints (Note (carrying task (step_counted k)) (next S h) (outcome_of task e)))
+    done_with : exchange_answer limits r.cells h e n ≡ Ok tt → HoldsAfter S limits H r s (goes_on (set r.cells h n) r.board.hints (Note (carrying task (step_counted k)) (next S h) (outcome_of task e)))
     done_with ok =
         let there = done_found limits r.cells h e n ok in
         let found = there.1 in
         let t' : Seat = Note (carrying task (step_counted k)) (next S h) (outcome_of task e) in
         let r' : Ring = with_seat r s (set r.cells h n) r.board.hints t' in
-        let X : Moment = step_moment s r r' On in
+        let X : Moment = step_moment s r r' None in
         let differs : alike (cell_at r.cells h) n ≡ false =
         and_left (eqb (cell_at r.cells h).value n.value) (eqb (cell_at r.cells h).round n.round)
         (ne_eqb (cell_at r.cells h).value n.value (exchanged_value S limits r.cells Puts Takes inv.shape task h e n k account w found)) in
         let stirred : changes X ≡ change ∷ [] = differences_one r.cells h n there.0 differs in
         let F : Seat → List Change → Account = λ u cs. stepped (one (fails limits r.cells u)) cs (cond (stands_at_look u) (Some (X ∷ H)) (last_look s H)) account in
-        let own : account_of limits s (X ∷ H) ≡ stepped (one (declined (exchange_answer limits r.cells h e n))) (change ∷ []) (last_look s H) account =
-        own_step limits s r r' On H ∙ ap (λ u. F u (changes X)) is ∙ ap (F t₀) stirred in
+        let own : account_of limits s (X ∷ H) ≡ stepped (one (is_err (exchange_answer limits r.cells h e n))) (change ∷ []) (last_look s H) account =
+        own_step limits s r r' None H ∙ ap (λ u. F u (changes X)) is ∙ ap (F t₀) stirred in
         let own' : account_of limits s (X ∷ H) ≡ stepped 0 (change ∷ []) (last_look s H) account =
-        own ∙ ap (λ (a : Exchanged). stepped (one (declined a)) (change ∷ []) (last_look s H) account) ok in
+        own ∙ ap (λ (a : Result (Unit {0}) Declined). stepped (one (is_err a)) (change ∷ []) (last_look s H) account) ok in
         let by : by_put X H ≡ is_put task = rw (eq-eqb s s refl) (ap is_put w.carried.begun) in
         let more = one_more task e Puts Takes in
         let i : RingSound S limits (puts_with task Puts) (takes_with task e Takes) (λ i. account_of limits i (X ∷ H)) r' =
@@ -228,11 +222,9 @@ module _ (limits : Limits) (H : History) (r : Ring) (inv : Holds r.board.size li
           tt,
         )
 
-    exchange_step : (a : Exchanged) → exchange_answer limits r.cells h e n ≡ a → HoldsAfter S limits H r s (goes_on (stored_by a r.cells h n) r.board.hints (after_answer S (carrying task (step_counted k)) h e a))
-    exchange_step Done f = done_with f
-    exchange_step Differs f = fails_with Differs refl f
-    exchange_step Unfit f = fails_with Unfit refl f
-    exchange_step NoCell f = fails_with NoCell refl f
+    exchange_step : (a : Result (Unit {0}) Declined) → exchange_answer limits r.cells h e n ≡ a → HoldsAfter S limits H r s (goes_on (stored_by a r.cells h n) r.board.hints (after_answer S (carrying task (step_counted k)) h e a))
+    exchange_step (Ok done) f = done_with f
+    exchange_step (Err cause) f = fails_with cause f
 
   -- A NOTE
   note_step : (task : Task) (h : ℕ) (o : Outcome) (k : Counts) (is : seat_at r s ≡ Note (carrying task k) h o) (w : AtNote S limits task h o k account) → (hinted r.board.hints task h).put < S → (hinted r.board.hints task h).take < S → HoldsAfter S limits H r s (ends r.cells (hinted r.board.hints task h) (carrying task (step_counted k)) o)

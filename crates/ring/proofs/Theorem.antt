@@ -1,15 +1,16 @@
 -- Every run from a new ring is lawful.
-use Rattle.std.proofs.Common.{◌≡◌, ℕ, ◌<◌, ◌≤◌, true, false, List, [], ◌∷◌, length, sym, refl, subst, subst₂, inl, inr, arith}
+use Rattle.std.proofs.Common.{◌≡◌, ℕ, ◌<◌, ◌≤◌, true, false, List, [], ◌∷◌, length, Some, None, Option, sym, refl, subst, subst₂, inl, inr, arith}
 use lib.ListN.{length-replicate, get_or-replicate}
 use Rattle.std.proofs.lemmas.Bool.{cases_eq, true≢false, eq-eqb, ne_eqb}
 use Rattle.memory.specs.declared.cells.Cell.{Cell}
 use Rattle.memory.specs.declared.cells.Limits.{Limits}
 use Rattle.memory.specs.Cells.{fresh}
+use Rattle.memory.specs.Sizes.{is_ring_size}
+use Rattle.memory.proofs.Powers.{size_bounds, decides_ring_size}
 use Rattle.ring.specs.declared.calls.Counts.{Counts}
 use Rattle.ring.specs.declared.calls.Outcome.{Outcome}
 use Rattle.ring.specs.declared.calls.Outcome.TheVariants.{Placed, Empty, Full, Taken, Worn}
-use Rattle.ring.specs.declared.calls.Progress.{Progress}
-use Rattle.ring.specs.declared.calls.Progress.TheVariants.{On, Answered}
+use Rattle.ring.specs.declared.calls.Answer.{Answer}
 use Rattle.ring.specs.declared.calls.Task.{Task}
 use Rattle.ring.specs.declared.calls.Task.TheVariants.{Put, Take}
 use Rattle.ring.specs.declared.dealings.Dealing.{Dealing}
@@ -82,16 +83,16 @@ tied_begin H r tied s task sits sixteen i open' =
           (before.0, rw (seat_else r s r.cells r.board.hints t i (λ z. n (sym z))) before.1)
     ]
 
-on_answer : (p : Progress) → stays_open (steps p) ≡ true → p ≡ On
-on_answer (Answered a) e = absurd (true≢false (sym e))
-on_answer On e = refl
+on_answer : (p : Option Answer) → stays_open (steps p) ≡ true → p ≡ None
+on_answer (Some a) e = absurd (true≢false (sym e))
+on_answer None e = refl
 
-tied_step : (limits : Limits) (H : History) (r : Ring) → Tied H r → (s : ℕ) → s < 16 → length r.board.seats ≡ 16 → is_idle (seat_at r s) ≡ false → Tied (step_moment s r (advanced limits r s).ring (advanced limits r s).progress ∷ H) (advanced limits r s).ring
+tied_step : (limits : Limits) (H : History) (r : Ring) → Tied H r → (s : ℕ) → s < 16 → length r.board.seats ≡ 16 → is_idle (seat_at r s) ≡ false → Tied (step_moment s r (advanced limits r s).ring (advanced limits r s).answer ∷ H) (advanced limits r s).ring
 tied_step limits H r tied s sits sixteen busy i open' =
     let x : Stepped = step_seat limits r.board.size r.cells r.board.hints (seat_at r s) in
     elim (cases_eq s i) [
       | inl e ↦ subst (λ (k : ℕ). (k < 16) × (is_idle (seat_at (advanced limits r s).ring k) ≡ false)) e
-          (sits, busy_on limits r s (omega arith) busy (on_answer (advanced limits r s).progress (rw (eq-eqb s i e) at open')))
+          (sits, busy_on limits r s (omega arith) busy (on_answer (advanced limits r s).answer (rw (eq-eqb s i e) at open')))
       | inr n ↦
           let before = tied i (rw (ne_eqb s i n) at open') in
           (before.0, rw (seat_else r s x.cells x.hints x.seat i (λ z. n (sym z))) before.1)
@@ -102,21 +103,17 @@ none_le : (made : List Change) → made ≡ [] → length made ≤ 1
 none_le made e = rw e (omega arith)
 
 once_le : (made : List Change) (P : Change → Type 0) → Once made P → length made ≤ 1
-once_le [] P w = absurd w
 once_le (c ∷ []) P w = omega arith
-once_le (c ∷ (d ∷ cs)) P w = absurd w
+once_le made P w = absurd w
 
 exchanges_le : (task : Task) (o : Outcome) (made : List Change) → ExchangesAs task o made → length made ≤ 1
 exchanges_le (Put v) Placed made w = once_le made _ w
 exchanges_le (Put v) Full made w = none_le made w
 exchanges_le (Put v) Worn made w = none_le made w
-exchanges_le (Put v) Empty made w = absurd w
-exchanges_le (Put v) (Taken n) made w = absurd w
 exchanges_le Take (Taken n) made w = once_le made _ w
 exchanges_le Take Empty made w = none_le made w
 exchanges_le Take Worn made w = none_le made w
-exchanges_le Take Placed made w = absurd w
-exchanges_le Take Full made w = absurd w
+exchanges_le task o made w = absurd w
 
 open_call : (S : ℕ) (limits : Limits) (cells : List Cell) (puts takes : List ℕ) → Shape S limits.round cells puts takes → (t : Seat) (a : Account) → is_idle t ≡ false → SeatSound S limits cells (length puts) (length takes) t a → OpenCall S a
 open_call S limits cells puts takes sh Idle a busy w = absurd (true≢false busy)
@@ -147,7 +144,7 @@ good_begin S limits H r g s task sits free fits =
       tied = tied_begin H r g.tied s task sits g.holds.sixteen;
     }
 
-good_step : (S : ℕ) (limits : Limits) (H : History) (r : Ring) → Good S limits H r → (s : ℕ) → s < 16 → is_idle (seat_at r s) ≡ false → Good S limits (step_moment s r (advanced limits r s).ring (advanced limits r s).progress ∷ H) (advanced limits r s).ring
+good_step : (S : ℕ) (limits : Limits) (H : History) (r : Ring) → Good S limits H r → (s : ℕ) → s < 16 → is_idle (seat_at r s) ≡ false → Good S limits (step_moment s r (advanced limits r s).ring (advanced limits r s).answer ∷ H) (advanced limits r s).ring
 good_step S limits H r g s sits busy =
     let m = step_holds S limits H r g.holds s sits busy in
     record {
@@ -181,3 +178,7 @@ runs_lawfully S limits r two e =
       lawful = λ ds. good_lawful S limits _ _ (good_on S limits ds [] (new_ring S) (good_new S limits two));
       stays_inside = λ ms. all_inside S ms (new_board S) (new_inside S two);
     })
+
+-- the same of a size that a ring can have
+pub sized_runs_lawfully : (S : ℕ) (limits : Limits) (r : Ring) → is_ring_size S ≡ true → r ≡ new_ring S → RunsLawfully S limits r
+sized_runs_lawfully S limits r sized e = runs_lawfully S limits r (size_bounds S ((decides_ring_size S).0 sized)).0 e

@@ -4,7 +4,7 @@ use Rattle.std.proofs.lemmas.Bool.{cond_both, not-true, not-false, leb-true, leb
 use Rattle.memory.specs.declared.cells.Cell.{Cell}
 use Rattle.memory.specs.declared.cells.Limits.{Limits}
 use Rattle.memory.specs.Cells.{filled, before}
-use Rattle.ring.specs.declared.calls.Outcome.TheVariants.{Placed, Empty, Full, Taken, Worn}
+use Rattle.ring.specs.declared.calls.Outcome.TheVariants.{Empty, Full, Worn}
 use Rattle.ring.specs.declared.looks.Verdict.{Verdict}
 use Rattle.ring.specs.declared.looks.Verdict.TheVariants.{Exchange, Note, Answer, Onward}
 use Rattle.ring.specs.Looks.{previous, expected_round, put_verdict, take_verdict, emptied}
@@ -30,11 +30,8 @@ TakeMeans S limits h p u (Exchange e n) =
     (e ≡ u) × (n ≡ emptied (u.round + 1)) × (0 < u.value) × (u.round ≡ limits.round → ⊥) × (place S h u ≤ place S (previous S h) p)
 TakeMeans S limits h p u (Answer Empty) = (u.value ≡ 0) × (place S h u ≤ place S (previous S h) p)
 TakeMeans S limits h p u (Answer Worn) = (0 < u.value) × (u.round ≡ limits.round)
-TakeMeans S limits h p u (Answer Placed) = ⊥
-TakeMeans S limits h p u (Answer Full) = ⊥
-TakeMeans S limits h p u (Answer (Taken n)) = ⊥
-TakeMeans S limits h p u (Note o) = ⊥
 TakeMeans S limits h p u Onward = place S (previous S h) p < place S h u
+TakeMeans S limits h p u verdict = ⊥
 
 filled_yes : (c : Cell) → filled c ≡ true → 0 < c.value
 filled_yes c e = omega (arith, eqb-false c.value 0 (not-true (eqb c.value 0) e))

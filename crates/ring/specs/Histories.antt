@@ -1,7 +1,8 @@
 -- What is observed of a ring: moments, each with the ring before and after it.
-use Rattle.std.specs.Prelude.{ℕ, zero, suc, List, [], ◌∷◌, Ok, Err}
+use Rattle.std.specs.Prelude.{ℕ, zero, suc, List, [], ◌∷◌, Option, Ok, Err, Result}
 use Rattle.memory.specs.declared.cells.Limits.{Limits}
-use Rattle.ring.specs.declared.calls.Progress.{Progress}
+use Rattle.memory.specs.declared.refusals.Refusal.{Refusal}
+use Rattle.ring.specs.declared.calls.Answer.{Answer}
 use Rattle.ring.specs.declared.calls.Task.{Task}
 use Rattle.ring.specs.declared.calls.Task.TheVariants.{Put, Take}
 use Rattle.ring.specs.declared.dealings.Dealing.{Dealing}
@@ -9,10 +10,10 @@ use Rattle.ring.specs.declared.dealings.Dealing.TheVariants.{BeginPut, BeginTake
 use Rattle.ring.specs.Rings.{Ring, Dealt, advanced, unless_answered, begin_put, begin_take, step_once, run_alone}
 use Rattle.ring.specs.Dealings.{deal}
 
--- what happened at a moment: a begin was accepted, or a step was, and returned this
+-- what happened at a moment: a begin was accepted, or a step was, with the answer if it gave one
 pub data Deed : Type 0 where
   begins : Task → Deed
-  steps : Progress → Deed
+  steps : Option Answer → Deed
 
 pub record Moment : Type 0 where
   pub seat : ℕ
@@ -27,19 +28,19 @@ History = List Moment
 abbrev pub begin_moment : ℕ → Task → Ring → Ring → Moment
 begin_moment seat task ring after = record { seat = seat; deed = begins task; before = ring; after = after }
 
-abbrev pub step_moment : ℕ → Ring → Ring → Progress → Moment
-step_moment seat ring after progress = record { seat = seat; deed = steps progress; before = ring; after = after }
+abbrev pub step_moment : ℕ → Ring → Ring → Option Answer → Moment
+step_moment seat ring after answer = record { seat = seat; deed = steps answer; before = ring; after = after }
 
 -- a run alone is as many moments as it makes steps
 abbrev pub run_moments : Limits → ℕ → Ring → ℕ → History → History
 run_moments limits zero ring seat earlier = earlier
 run_moments limits (suc n) ring seat earlier =
     let m = advanced limits ring seat in
-    let moments = step_moment seat ring m.ring m.progress ∷ earlier in
-    unless_answered m.progress moments (run_moments limits n m.ring seat moments)
+    let moments = step_moment seat ring m.ring m.answer ∷ earlier in
+    unless_answered m.answer moments (run_moments limits n m.ring seat moments)
 
 -- a dealing that is refused leaves no moment
-abbrev pub if_accepted : {X : Type 0} → Dealt X → (Ring → X → History) → History → History
+abbrev pub if_accepted : {X : Type 0} → Dealt (Result X Refusal) → (Ring → X → History) → History → History
 if_accepted d more earlier = elim d.answer [ Ok x ↦ more d.ring x | Err cause ↦ earlier ]
 
 -- what is observed of one dealing, ahead of all earlier moments
@@ -49,7 +50,7 @@ observed limits ring (BeginPut seat value) earlier =
 observed limits ring (BeginTake seat) earlier =
     if_accepted (begin_take ring seat) (λ after _. begin_moment seat Take ring after ∷ earlier) earlier
 observed limits ring (Step seat) earlier =
-    if_accepted (step_once limits ring seat) (λ after progress. step_moment seat ring after progress ∷ earlier) earlier
+    if_accepted (step_once limits ring seat) (λ after answer. step_moment seat ring after answer ∷ earlier) earlier
 observed limits ring (RunAlone seat count) earlier =
     if_accepted (run_alone limits ring seat count) (λ _ _. run_moments limits count ring seat earlier) earlier
 

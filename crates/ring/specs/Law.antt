@@ -1,19 +1,17 @@
 -- The law of whole runs: what holds of every history of a ring, from when it was new, whatever its dealings were and however their steps came between one another.
-use Rattle.std.specs.Prelude.{◌≡◌, ℕ, ◌+◌, ◌*◌, ◌<◌, ◌≤◌, min, Bool, true, false, cond, ◌&&◌, List, [], ◌∷◌, ◌++◌, map, length, take, Some, None, Option, ◌==◌}
+use Rattle.std.specs.Prelude.{◌≡◌, ℕ, ◌+◌, ◌*◌, ◌<◌, ◌≤◌, min, Bool, true, false, if◌then◌else◌, ◌&&◌, List, [], ◌∷◌, ◌++◌, map, length, take, Some, None, Option, is_err, ◌==◌}
+use Rattle.std.specs.List.{count_by, flat_map, sum_by}
 use Rattle.memory.specs.declared.cells.Cell.{Cell}
 use Rattle.memory.specs.declared.cells.Limits.{Limits}
-use Rattle.memory.specs.declared.rules.Exchanged.{Exchanged}
-use Rattle.memory.specs.declared.rules.Exchanged.TheVariants.{Done, Differs, Unfit, NoCell}
 use Rattle.memory.specs.Rules.{alike, exchange_answer}
 use Rattle.ring.specs.declared.calls.Answer.{Answer}
 use Rattle.ring.specs.declared.calls.Outcome.{Outcome}
 use Rattle.ring.specs.declared.calls.Outcome.TheVariants.{Placed, Empty, Full, Taken, Worn}
-use Rattle.ring.specs.declared.calls.Progress.TheVariants.{On, Answered}
 use Rattle.ring.specs.declared.calls.Task.{Task}
 use Rattle.ring.specs.declared.calls.Task.TheVariants.{Put, Take}
 use Rattle.ring.specs.declared.dealings.Dealing.{Dealing}
 use Rattle.ring.specs.declared.seat.Seat.{Seat}
-use Rattle.ring.specs.declared.seat.Seat.TheVariants.{Idle, Start, First, Look, Exchange, Note}
+use Rattle.ring.specs.declared.seat.Seat.TheVariants.{Look, Exchange}
 use Rattle.ring.specs.Looks.{largest_count}
 use Rattle.ring.specs.Rings.{Ring, seat_at}
 use Rattle.ring.specs.Inside.{Meeting, board_after, Inside}
@@ -24,12 +22,8 @@ abbrev pub stood : Moment → Seat
 stood x = seat_at x.before x.seat
 
 abbrev pub stands_at_look : Seat → Bool
-stands_at_look Idle = false
-stands_at_look (Start call) = false
-stands_at_look (First call i) = false
 stands_at_look (Look call i p) = true
-stands_at_look (Exchange call i expected new) = false
-stands_at_look (Note call i outcome) = false
+stands_at_look seat = false
 
 -- EXCHANGES
 
@@ -42,34 +36,24 @@ abbrev pub differences : List Cell → List Cell → List Change
 differences [] after = []
 differences (a ∷ cells) [] = []
 differences (a ∷ cells) (b ∷ after) =
-    cond (alike a b) (differences cells after) (record { was = a; is = b } ∷ differences cells after)
+    if alike a b then differences cells after else (record { was = a; is = b } ∷ differences cells after)
 
 abbrev pub changes : Moment → List Change
 changes x = differences x.before.cells x.after.cells
 
 -- a failed exchange: the memory answered it otherwise than 'done'
-abbrev pub declined : Exchanged → Bool
-declined Done = false
-declined Differs = true
-declined Unfit = true
-declined NoCell = true
-
 abbrev pub fails : Limits → List Cell → Seat → Bool
-fails limits cells Idle = false
-fails limits cells (Start call) = false
-fails limits cells (First call i) = false
-fails limits cells (Look call i p) = false
-fails limits cells (Exchange call i expected new) = declined (exchange_answer limits cells i expected new)
-fails limits cells (Note call i outcome) = false
+fails limits cells (Exchange call i expected new) = is_err (exchange_answer limits cells i expected new)
+fails limits cells seat = false
 
 -- CALLS: a put or a take, from its accepted begin on, open until its answer
 abbrev pub is_begin : Deed → Bool
 is_begin (begins task) = true
-is_begin (steps progress) = false
+is_begin (steps answer) = false
 
 abbrev pub is_step : Deed → Bool
 is_step (begins task) = false
-is_step (steps progress) = true
+is_step (steps answer) = true
 
 abbrev pub step_by : ℕ → Moment → Bool
 step_by s x = x.seat == s && is_step x.deed
@@ -80,43 +64,35 @@ begin_by s x = x.seat == s && is_begin x.deed
 -- the moments since the last begin of seat s, that begin included
 abbrev pub since : ℕ → History → History
 since s [] = []
-since s (x ∷ H) = cond (begin_by s x) (x ∷ []) (x ∷ since s H)
-
-abbrev pub one : Bool → ℕ
-one true = 1
-one false = 0
+since s (x ∷ H) = if begin_by s x then x ∷ [] else (x ∷ since s H)
 
 -- of some moments: the steps of seat s, its failed exchanges, its changes, and how many changes others made
 abbrev pub steps_of : ℕ → History → ℕ
-steps_of s [] = 0
-steps_of s (x ∷ H) = one (step_by s x) + steps_of s H
+steps_of s H = count_by (step_by s) H
 
 abbrev pub failures_of : Limits → ℕ → History → ℕ
-failures_of limits s [] = 0
-failures_of limits s (x ∷ H) = one (step_by s x && fails limits x.before.cells (stood x)) + failures_of limits s H
+failures_of limits s H = count_by (λ x. step_by s x && fails limits x.before.cells (stood x)) H
 
 abbrev pub changes_of : ℕ → History → List Change
-changes_of s [] = []
-changes_of s (x ∷ H) = cond (x.seat == s) (changes x) [] ++ changes_of s H
+changes_of s H = flat_map (λ x. if x.seat == s then changes x else []) H
 
 abbrev pub others_of : ℕ → History → ℕ
-others_of s [] = 0
-others_of s (x ∷ H) = length (cond (x.seat == s) [] (changes x)) + others_of s H
+others_of s H = sum_by (λ x. length (if x.seat == s then [] else changes x)) H
 
 -- what the last call of seat s was begun as; a seat that has begun none counts as one of a take
 abbrev pub task_of : Deed → Task → Task
 task_of (begins task) earlier = task
-task_of (steps progress) earlier = earlier
+task_of (steps answer) earlier = earlier
 
 abbrev pub begun_as : ℕ → History → Task
 begun_as s [] = Take
-begun_as s (x ∷ H) = cond (x.seat == s) (task_of x.deed (begun_as s H)) (begun_as s H)
+begun_as s (x ∷ H) = if x.seat == s then task_of x.deed (begun_as s H) else begun_as s H
 
 -- all that had happened once the last call of seat s last looked, that look included; a last look is its last step that read cell u
 abbrev pub last_look : ℕ → History → Option History
 last_look s [] = None
 last_look s (x ∷ H) =
-    cond (begin_by s x) None (cond (step_by s x && stands_at_look (stood x)) (Some (x ∷ H)) (last_look s H))
+    if begin_by s x then None else if step_by s x && stands_at_look (stood x) then Some (x ∷ H) else last_look s H
 
 -- an account of the call that seat s carries or last carried: what a history says of it
 pub record Account : Type 0 where
@@ -142,12 +118,12 @@ account_of limits s H =
 -- seat s has begun a call, and no answer has come since
 abbrev pub stays_open : Deed → Bool
 stays_open (begins task) = true
-stays_open (steps On) = true
-stays_open (steps (Answered answer)) = false
+stays_open (steps None) = true
+stays_open (steps (Some answer)) = false
 
 abbrev pub is_open : ℕ → History → Bool
 is_open s [] = false
-is_open s (x ∷ H) = cond (x.seat == s) (stays_open x.deed) (is_open s H)
+is_open s (x ∷ H) = if x.seat == s then stays_open x.deed else is_open s H
 
 -- THE NUMBERS PUT AND TAKEN, in order: what puts stored and what takes removed, by successful exchanges
 abbrev pub is_put : Task → Bool
@@ -160,11 +136,11 @@ by_put x H = is_put (begun_as x.seat (x ∷ H))
 
 abbrev pub numbers_put : History → List ℕ
 numbers_put [] = []
-numbers_put (x ∷ H) = numbers_put H ++ cond (by_put x H) (map (λ c. c.is.value) (changes x)) []
+numbers_put (x ∷ H) = numbers_put H ++ (if by_put x H then map (λ c. c.is.value) (changes x) else [])
 
 abbrev pub numbers_taken : History → List ℕ
 numbers_taken [] = []
-numbers_taken (x ∷ H) = numbers_taken H ++ cond (by_put x H) [] (map (λ c. c.was.value) (changes x))
+numbers_taken (x ∷ H) = numbers_taken H ++ (if by_put x H then [] else map (λ c. c.was.value) (changes x))
 
 -- n numbers waited: how many had been put less how many had been taken
 abbrev pub Waited : History → ℕ → Type 0
@@ -178,22 +154,18 @@ WornOut S limits H = (length (numbers_put H) ≡ limits.round * S) × (length (n
 
 -- exactly one successful exchange, of which P holds
 abbrev pub Once : List Change → (Change → Type 0) → Type 0
-Once [] P = ⊥
 Once (c ∷ []) P = P c
-Once (c ∷ (d ∷ cs)) P = ⊥
+Once made P = ⊥
 
 -- 'placed' and 'taken': one successful exchange, with the call's own number; 'full', 'none' and 'worn': no exchange. No put is answered as a take, and no take as a put.
 abbrev pub ExchangesAs : Task → Outcome → List Change → Type 0
 ExchangesAs (Put value) Placed made = Once made (λ c. c.is.value ≡ value)
 ExchangesAs (Put value) Full made = made ≡ []
 ExchangesAs (Put value) Worn made = made ≡ []
-ExchangesAs (Put value) Empty made = ⊥
-ExchangesAs (Put value) (Taken n) made = ⊥
 ExchangesAs Take (Taken n) made = Once made (λ c. c.was.value ≡ n)
 ExchangesAs Take Empty made = made ≡ []
 ExchangesAs Take Worn made = made ≡ []
-ExchangesAs Take Placed made = ⊥
-ExchangesAs Take Full made = ⊥
+ExchangesAs task outcome made = ⊥
 
 -- the call has looked, and P held at its last look
 abbrev pub AtLastLook : (History → Type 0) → Option History → Type 0
@@ -229,8 +201,8 @@ pub record OpenCall (S : ℕ) (account : Account) : Type 0 where
 -- if this deed is an answer, then its call is as an answered call is
 abbrev pub AtAnswer : ℕ → Limits → Deed → Account → Type 0
 AtAnswer S limits (begins task) account = Unit {0}
-AtAnswer S limits (steps On) account = Unit {0}
-AtAnswer S limits (steps (Answered answer)) account = AnsweredCall S limits account answer
+AtAnswer S limits (steps None) account = Unit {0}
+AtAnswer S limits (steps (Some answer)) account = AnsweredCall S limits account answer
 
 -- every answer that was ever given, at the moment when it was given
 abbrev pub EveryAnswer : ℕ → Limits → History → Type 0

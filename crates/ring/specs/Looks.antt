@@ -1,5 +1,5 @@
 -- Where a look leads, and what counts.
-use Rattle.std.specs.Prelude.{ℕ, ◌+◌, ◌-◌, min, cond, not, ◌&&◌, ◌||◌, List, ◌==◌, nat_le, nat_lt, slice_index_or}
+use Rattle.std.specs.Prelude.{ℕ, ◌+◌, ◌-◌, min, if◌then◌else◌, not, ◌&&◌, ◌||◌, List, ◌==◌, nat_le, nat_lt, slice_index_or}
 use Rattle.memory.specs.declared.cells.Cell.{Cell}
 use Rattle.memory.specs.declared.cells.Limits.{Limits}
 use Rattle.memory.specs.Cells.{filled, fresh, before}
@@ -14,10 +14,10 @@ use Rattle.ring.specs.declared.looks.Verdict.TheVariants.{Exchange, Note, Answer
 
 -- The index before and the index after, round the ring. Inside the ring they are (i + size − 1) mod size and (i + 1) mod size.
 abbrev pub previous : ℕ → ℕ → ℕ
-previous size i = cond (i == 0) (size - 1) (i - 1)
+previous size i = if i == 0 then size - 1 else i - 1
 
 abbrev pub next : ℕ → ℕ → ℕ
-next size i = cond (nat_lt (i + 1) size) (i + 1) 0
+next size i = if nat_lt (i + 1) size then i + 1 else 0
 
 -- The cell at an index. That a look outside reads a fresh cell is a formality: no dealings lead outside.
 abbrev pub cell_at : List Cell → ℕ → Cell
@@ -30,21 +30,25 @@ emptied round = record { value = 0; round = round }
 -- the round at which a put finds the cell at index h empty, by the cell p before it
 abbrev pub expected_round : Cell → ℕ → ℕ
 expected_round p h =
-    cond (filled p) (cond (h == 0) (p.round + 1) p.round) (cond (h == 0) p.round (p.round - 1))
+    if filled p then if h == 0 then p.round + 1 else p.round else if h == 0 then p.round else p.round - 1
 
 -- A put has read cell p and then, at the next index h, cell u: the earliest line that fits.
 abbrev pub put_verdict : Limits → ℕ → ℕ → ℕ → Cell → Cell → Verdict
 put_verdict limits size value h p u =
-    cond ((filled p && not (filled u)) || (not (before p (previous size h) u h) && (not (filled p) && not (filled u))))
-    (cond (nat_le limits.round (expected_round p h)) (Answer Worn) (Exchange (emptied (expected_round p h)) (record { value = value; round = expected_round p h })))
-    (cond (not (before p (previous size h) u h) && (filled p && filled u)) (Note Full) Onward)
+    let ordered = before p (previous size h) u h in
+    let round = expected_round p h in
+    if (filled p && not (filled u)) || (not ordered && (not (filled p) && not (filled u)))
+    then if nat_le limits.round round then Answer Worn else Exchange (emptied round) (record { value = value; round = round })
+    else if not ordered && (filled p && filled u) then Note Full
+    else Onward
 
 -- A take has read cell p and then, at the next index t, cell u.
 abbrev pub take_verdict : Limits → ℕ → ℕ → Cell → Cell → Verdict
 take_verdict limits size t p u =
-    cond (before p (previous size t) u t) Onward
-    (cond (not (filled u)) (Answer Empty)
-    (cond (u.round == limits.round) (Answer Worn) (Exchange u (emptied (u.round + 1)))))
+    if before p (previous size t) u t then Onward
+    else if not (filled u) then Answer Empty
+    else if u.round == limits.round then Answer Worn
+    else Exchange u (emptied (u.round + 1))
 
 abbrev pub verdict_of : Limits → ℕ → Task → ℕ → Cell → Cell → Verdict
 verdict_of limits size (Put value) i p u = put_verdict limits size value i p u

@@ -1,5 +1,5 @@
 -- A ring is a board with the cells that it was made on: what each call leaves of it, and what the call answers.
-use Rattle.std.specs.Prelude.{ℕ, zero, suc, Bool, true, false, not, ◌||◌, List, [], ◌∷◌, length, replicate, Ok, Err, Result, ◌==◌, nat_lt, slice_index_or, slice_set}
+use Rattle.std.specs.Prelude.{ℕ, zero, suc, Bool, true, false, not, ◌||◌, List, [], ◌∷◌, length, replicate, Some, None, Option, Ok, Err, Result, ◌==◌, nat_lt, slice_index_or, slice_set}
 use Rattle.memory.specs.declared.cells.Cell.{Cell}
 use Rattle.memory.specs.declared.cells.Limits.{Limits}
 use Rattle.memory.specs.declared.refusals.Refusal.{Refusal}
@@ -8,12 +8,11 @@ use Rattle.memory.specs.Cells.{fresh}
 use Rattle.memory.specs.Refusals.{unless}
 use Rattle.memory.specs.Sizes.{is_ring_size}
 use Rattle.ring.specs.declared.board.Board.{Board}
-use Rattle.ring.specs.declared.calls.Progress.{Progress}
-use Rattle.ring.specs.declared.calls.Progress.TheVariants.{On, Answered}
+use Rattle.ring.specs.declared.calls.Answer.{Answer}
 use Rattle.ring.specs.declared.calls.Task.{Task}
 use Rattle.ring.specs.declared.calls.Task.TheVariants.{Put, Take}
 use Rattle.ring.specs.declared.seat.Seat.{Seat}
-use Rattle.ring.specs.declared.seat.Seat.TheVariants.{Idle, Start, First, Look, Exchange, Note}
+use Rattle.ring.specs.declared.seat.Seat.TheVariants.{Idle, Start}
 use Rattle.ring.specs.Looks.{beginning}
 use Rattle.ring.specs.Seats.{Stepped, step_seat}
 
@@ -29,11 +28,7 @@ seat_at ring seat = slice_index_or ring.board.seats seat Idle
 
 abbrev pub is_idle : Seat → Bool
 is_idle Idle = true
-is_idle (Start call) = false
-is_idle (First call i) = false
-is_idle (Look call i p) = false
-is_idle (Exchange call i expected new) = false
-is_idle (Note call i outcome) = false
+is_idle seat = false
 
 -- a board with both hints at 0 and all seats idle; with size 0, one that no ring was made on
 abbrev pub new_board : ℕ → Board
@@ -55,40 +50,37 @@ begun ring seat task =
       seats = slice_set ring.board.seats seat (Start (beginning task));
     })
 
--- a ring after a step or several, and what the last returned
-pub record Moved : Type 0 where
+-- what a call leaves, and its answer
+pub record Dealt (A : Type 0) : Type 0 where
   pub ring : Ring
-  pub progress : Progress
+  pub answer : A
 
-abbrev pub after_step : Ring → ℕ → Stepped → Moved
+-- the same, by the cells and the board that it leaves
+abbrev pub dealt : {A : Type 0} → List Cell → Board → A → Dealt A
+dealt cells board answer = record { ring = ring_of cells board; answer = answer }
+
+-- the ring after a step of a seat, and the answer, if the step gave one
+abbrev pub after_step : Ring → ℕ → Stepped → Dealt (Option Answer)
 after_step ring seat step =
-    record {
-      ring = ring_of step.cells (record { size = ring.board.size; hints = step.hints; seats = slice_set ring.board.seats seat step.seat });
-      progress = step.progress;
-    }
+    dealt step.cells (record { size = ring.board.size; hints = step.hints; seats = slice_set ring.board.seats seat step.seat }) step.answer
 
 -- one step of a seat
-abbrev pub advanced : Limits → Ring → ℕ → Moved
+abbrev pub advanced : Limits → Ring → ℕ → Dealt (Option Answer)
 advanced limits ring seat =
     after_step ring seat (step_seat limits ring.board.size ring.cells ring.board.hints (seat_at ring seat))
 
-abbrev pub unless_answered : {X : Type 0} → Progress → X → X → X
-unless_answered (Answered answer) x rest = x
-unless_answered On x rest = rest
+abbrev pub unless_answered : {X : Type 0} → Option Answer → X → X → X
+unless_answered (Some answer) x rest = x
+unless_answered None x rest = rest
 
 -- up to a number of steps of one seat; an answer ends them
-unfoldable pub run : Limits → ℕ → Ring → ℕ → Moved
-run limits zero ring seat = record { ring = ring; progress = On }
+unfoldable pub run : Limits → ℕ → Ring → ℕ → Dealt (Option Answer)
+run limits zero ring seat = record { ring = ring; answer = None }
 run limits (suc n) ring seat =
-    unless_answered (advanced limits ring seat).progress (advanced limits ring seat) (run limits n (advanced limits ring seat).ring seat)
-
--- what a call leaves, and its answer
-pub record Dealt (X : Type 0) : Type 0 where
-  pub ring : Ring
-  pub answer : Result X Refusal
+    unless_answered (advanced limits ring seat).answer (advanced limits ring seat) (run limits n (advanced limits ring seat).ring seat)
 
 -- the ring `after` and the answer x, unless the call is refused: then the ring stays
-abbrev pub settled : {X : Type 0} → Result ℕ Refusal → Ring → Ring → X → Dealt X
+abbrev pub settled : {X : Type 0} → Result ℕ Refusal → Ring → Ring → X → Dealt (Result X Refusal)
 settled (Ok n) ring after x = record { ring = after; answer = Ok x }
 settled (Err cause) ring after x = record { ring = ring; answer = Err cause }
 
@@ -122,21 +114,21 @@ abbrev pub size_causes : Ring → List (Bool × Refusal)
 size_causes ring = (not (is_ring_size (length ring.cells)), RingSize) ∷ []
 
 -- THE CALLS
-abbrev pub begin_put : Limits → Ring → ℕ → ℕ → Dealt (Unit {0})
+abbrev pub begin_put : Limits → Ring → ℕ → ℕ → Dealt (Result (Unit {0}) Refusal)
 begin_put limits ring seat value = settled (unless (put_causes limits ring seat value) seat) ring (begun ring seat (Put value)) tt
 
-abbrev pub begin_take : Ring → ℕ → Dealt (Unit {0})
+abbrev pub begin_take : Ring → ℕ → Dealt (Result (Unit {0}) Refusal)
 begin_take ring seat = settled (unless (begin_causes ring seat []) seat) ring (begun ring seat Take) tt
 
-abbrev pub step_once : Limits → Ring → ℕ → Dealt Progress
+abbrev pub step_once : Limits → Ring → ℕ → Dealt (Result (Option Answer) Refusal)
 step_once limits ring seat =
-    settled (unless (step_causes ring seat []) seat) ring (advanced limits ring seat).ring (advanced limits ring seat).progress
+    settled (unless (step_causes ring seat []) seat) ring (advanced limits ring seat).ring (advanced limits ring seat).answer
 
-abbrev pub run_alone : Limits → Ring → ℕ → ℕ → Dealt Progress
+abbrev pub run_alone : Limits → Ring → ℕ → ℕ → Dealt (Result (Option Answer) Refusal)
 run_alone limits ring seat count =
-    settled (unless (run_causes ring seat count) seat) ring (run limits count ring seat).ring (run limits count ring seat).progress
+    settled (unless (run_causes ring seat count) seat) ring (run limits count ring seat).ring (run limits count ring seat).answer
 
 -- making a ring takes all of the memory
-abbrev pub make_ring : Ring → Dealt (Unit {0})
+abbrev pub make_ring : Ring → Dealt (Result (Unit {0}) Refusal)
 make_ring ring =
     settled (unless (size_causes ring) (length ring.cells)) ring (new_ring (length ring.cells)) tt

@@ -1,14 +1,12 @@
 -- What one step does: one access to a cell or to a hint, by the call that a seat carries.
-use Rattle.std.specs.Prelude.{ℕ, List}
+use Rattle.std.specs.Prelude.{ℕ, List, Some, None, Option, Ok, Err, Result}
 use Rattle.memory.specs.declared.cells.Cell.{Cell}
 use Rattle.memory.specs.declared.cells.Limits.{Limits}
-use Rattle.memory.specs.declared.rules.Exchanged.{Exchanged}
-use Rattle.memory.specs.declared.rules.Exchanged.TheVariants.{Done, Differs, Unfit, NoCell}
+use Rattle.memory.specs.declared.rules.Declined.{Declined}
 use Rattle.memory.specs.Rules.{exchange_answer, after_exchange}
+use Rattle.ring.specs.declared.calls.Answer.{Answer}
 use Rattle.ring.specs.declared.calls.Call.{Call}
 use Rattle.ring.specs.declared.calls.Outcome.{Outcome}
-use Rattle.ring.specs.declared.calls.Progress.{Progress}
-use Rattle.ring.specs.declared.calls.Progress.TheVariants.{On, Answered}
 use Rattle.ring.specs.declared.calls.Task.{Task}
 use Rattle.ring.specs.declared.calls.Task.TheVariants.{Put, Take}
 use Rattle.ring.specs.declared.looks.Verdict.{Verdict}
@@ -26,21 +24,21 @@ abbrev pub hinted : Hints → Task → ℕ → Hints
 hinted hints (Put value) i = record { put = i; take = hints.take }
 hinted hints Take i = record { put = hints.put; take = i }
 
--- all that a step leaves, and what it returns
+-- all that a step leaves, and the answer, if it gives one
 pub record Stepped : Type 0 where
   pub cells : List Cell
   pub hints : Hints
   pub seat : Seat
-  pub progress : Progress
+  pub answer : Option Answer
 
 -- the call goes on, in this seat
 abbrev pub goes_on : List Cell → Hints → Seat → Stepped
-goes_on cells hints seat = record { cells = cells; hints = hints; seat = seat; progress = On }
+goes_on cells hints seat = record { cells = cells; hints = hints; seat = seat; answer = None }
 
 -- the call ends, and its seat is idle
 abbrev pub ends : List Cell → Hints → Call → Outcome → Stepped
 ends cells hints call outcome =
-    record { cells = cells; hints = hints; seat = Idle; progress = Answered (record { outcome = outcome; counts = call.counts }) }
+    record { cells = cells; hints = hints; seat = Idle; answer = Some (record { outcome = outcome; counts = call.counts }) }
 
 -- after a look that read the cell u at index i
 abbrev pub after_look : ℕ → List Cell → Hints → Call → ℕ → Cell → Verdict → Stepped
@@ -50,11 +48,9 @@ after_look size cells hints call i u (verdicts.Answer outcome) = ends cells hint
 after_look size cells hints call i u verdicts.Onward = goes_on cells hints (Look call (next size i) u)
 
 -- the seat after an exchange at index i with this answer
-abbrev pub after_answer : ℕ → Call → ℕ → Cell → Exchanged → Seat
-after_answer size call i expected Done = Note call (next size i) (outcome_of call.task expected)
-after_answer size call i expected Differs = Start (one_failure call)
-after_answer size call i expected Unfit = Start (one_failure call)
-after_answer size call i expected NoCell = Start (one_failure call)
+abbrev pub after_answer : ℕ → Call → ℕ → Cell → Result (Unit {0}) Declined → Seat
+after_answer size call i expected (Ok done) = Note call (next size i) (outcome_of call.task expected)
+after_answer size call i expected (Err cause) = Start (one_failure call)
 
 abbrev pub step_seat : Limits → ℕ → List Cell → Hints → Seat → Stepped
 step_seat limits size cells hints Idle = goes_on cells hints Idle

@@ -1,17 +1,19 @@
 // The board of a ring, and the calls of its seats.
 ghost use Rattle.std.specs.Prelude.{◌≡◌, ◌<◌, []};
 ghost use Rattle.memory.specs.Refusals.{unless};
-ghost use Rattle.ring.specs.Rings.{ring_of, new_board, advanced, run, seat_causes, begin_causes, put_causes, step_causes, run_causes, begin_put, begin_take, step_once, run_alone};
+ghost use Rattle.ring.specs.Rings.{ring_of, new_board, dealt, advanced, run, seat_causes, begin_causes, put_causes, step_causes, run_causes, begin_put, begin_take, step_once, run_alone};
 
-use crate::calls::{Call, Progress, Task};
+use crate::calls::{Answer, Call, Task};
+use crate::looks::Circle;
 use crate::seat::{Hints, Seat};
+use memory::elements::Element;
 use memory::refusals::Refusal;
 use memory::rules::Memory;
 
 // What the seats of a ring share besides its cells. It holds no cell: each call is lent the memory.
 #[derive(Drop)]
 pub struct Board {
-    // The number of cells; 0 on a board that no ring was made on.
+    // The number of cells; 0 on a board that no ring was made on, which no memory that is admitted can have.
     pub(crate) size: u16,
     pub(crate) hints: Hints,
     pub(crate) seats: [Seat; 16],
@@ -24,7 +26,7 @@ impl Board {
     {
         Board {
             size,
-            hints: Hints { put: 0, take: 0 },
+            hints: Hints::default(),
             seats: [Seat::Idle; 16],
         }
     }
@@ -63,10 +65,10 @@ impl Board {
 
     // The same, with a value to put.
     fn admit_put<M: Memory>(&self, memory: &M, seat: u8, value: u64) -> Result<usize, Refusal>
-        ensures { result ≡ unless (put_causes M.bounds (ring_of (M.cells memory.now) self.now) seat value) seat }
+        ensures { result ≡ unless (put_causes M.Element.LIMITS (ring_of (M.cells memory.now) self.now) seat value) seat }
     {
         let at = self.admit_begin(memory, seat)?;
-        if value == 0 || value > memory.limits().value {
+        if value == 0 || value > M::Element::LIMITS.value {
             return Err(Refusal::ValueOutside { seat });
         }
         Ok(at)
@@ -96,7 +98,7 @@ impl Board {
 
     // Begins a put of this value in an idle seat.
     pub fn begin_put<M: Memory>(&mut self, memory: &M, seat: u8, value: u64) -> Result<(), Refusal>
-        ensures { record { ring = ring_of (M.cells memory.now) self.new; answer = result } ≡ begin_put M.bounds (ring_of (M.cells memory.now) self.old) seat value }
+        ensures { dealt (M.cells memory.now) self.new result ≡ begin_put M.Element.LIMITS (ring_of (M.cells memory.now) self.old) seat value }
     {
         let at = self.admit_put(memory, seat, value)?;
         self.seats[at] = Seat::Start(Call::begin(Task::Put { value }));
@@ -105,54 +107,57 @@ impl Board {
 
     // Begins a take in an idle seat.
     pub fn begin_take<M: Memory>(&mut self, memory: &M, seat: u8) -> Result<(), Refusal>
-        ensures { record { ring = ring_of (M.cells memory.now) self.new; answer = result } ≡ begin_take (ring_of (M.cells memory.now) self.old) seat }
+        ensures { dealt (M.cells memory.now) self.new result ≡ begin_take (ring_of (M.cells memory.now) self.old) seat }
     {
         let at = self.admit_begin(memory, seat)?;
         self.seats[at] = Seat::Start(Call::begin(Task::Take));
         Ok(())
     }
 
-    // Lends one seat to a step: one access to one shared thing.
-    fn advance<M: Memory>(&mut self, memory: &mut M, at: usize) -> Progress
-        requires { (0 < self.old.size) × (at < 16) }
-        ensures after { record { ring = ring_of (M.cells memory.new) self.new; progress = result } ≡ advanced M.bounds (ring_of (M.cells memory.old) self.old) at }
+    // Lends one seat to a step: one access to one shared thing. None: its call goes on.
+    fn advance<M: Memory>(&mut self, memory: &mut M, at: usize) -> Option<Answer>
+        requires { at < 16 }
+        ensures after { dealt (M.cells memory.new) self.new result ≡ advanced M.Element.LIMITS (ring_of (M.cells memory.old) self.old) at }
         ensures apart { M.frame memory.new ≡ M.frame memory.old }
     {
-        self.seats[at].step(memory, self.size, &mut self.hints)
+        let circle = Circle { size: self.size };
+        self.seats[at].step(memory, circle, &mut self.hints)
     }
 
-    // One step of the call that a seat carries.
-    pub fn step<M: Memory>(&mut self, memory: &mut M, seat: u8) -> Result<Progress, Refusal>
-        ensures after { record { ring = ring_of (M.cells memory.new) self.new; answer = result } ≡ step_once M.bounds (ring_of (M.cells memory.old) self.old) seat }
+    // One step of the call that a seat carries, and its answer. None: the call goes on.
+    pub fn step<M: Memory>(&mut self, memory: &mut M, seat: u8) -> Result<Option<Answer>, Refusal>
+        ensures after { dealt (M.cells memory.new) self.new result ≡ step_once M.Element.LIMITS (ring_of (M.cells memory.old) self.old) seat }
         ensures apart { M.frame memory.new ≡ M.frame memory.old }
     {
         let at = self.admit_step(memory, seat)?;
         Ok(self.advance(memory, at))
     }
 
-    // Steps one seat up to `count` times; an answer ends the run.
-    fn run<M: Memory>(&mut self, memory: &mut M, at: usize, count: u16) -> Progress
-        requires { (0 < self.old.size) × (at < 16) }
-        ensures after { record { ring = ring_of (M.cells memory.new) self.new; progress = result } ≡ run M.bounds count (ring_of (M.cells memory.old) self.old) at }
+    // Steps one seat up to `count` times; an answer ends the run. None: the call goes on. No index is counted, and a chain
+    // over a closure that steps the board would tell the prover nothing of the steps.
+    #[tactic(auto, using(crate::proofs::Running::run_steps))]
+    fn run<M: Memory>(&mut self, memory: &mut M, at: usize, count: u16) -> Option<Answer>
+        requires { at < 16 }
+        ensures after { dealt (M.cells memory.new) self.new result ≡ run M.Element.LIMITS count (ring_of (M.cells memory.old) self.old) at }
         ensures apart { M.frame memory.new ≡ M.frame memory.old }
     {
         for _ in 0..count {
-            let progress = self.advance(memory, at);
-            if let Progress::Answered(_) = progress {
-                return progress;
+            if let Some(answer) = self.advance(memory, at) {
+                return Some(answer);
             }
         }
-        Progress::On
+        None
     }
 
-    // Steps the call of one seat up to `count` times, at most 8,192; its answer ends the run.
+    // Steps the call of one seat up to `count` times, at most 8,192; its answer ends the run. None: the call goes
+    // on.
     pub fn run_alone<M: Memory>(
         &mut self,
         memory: &mut M,
         seat: u8,
         count: u16,
-    ) -> Result<Progress, Refusal>
-        ensures after { record { ring = ring_of (M.cells memory.new) self.new; answer = result } ≡ run_alone M.bounds (ring_of (M.cells memory.old) self.old) seat count }
+    ) -> Result<Option<Answer>, Refusal>
+        ensures after { dealt (M.cells memory.new) self.new result ≡ run_alone M.Element.LIMITS (ring_of (M.cells memory.old) self.old) seat count }
         ensures apart { M.frame memory.new ≡ M.frame memory.old }
     {
         let at = self.admit_run(memory, seat, count)?;

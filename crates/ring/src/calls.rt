@@ -4,7 +4,7 @@ ghost use Rattle.ring.specs.Looks.{outcome_of, beginning, one_step, one_failure}
 
 use memory::cells::Cell;
 
-// What a call is to do.
+// What a call is to do. Both are named: an Option of a value would not say that its lack is a take.
 #[derive(Clone, Copy)]
 pub enum Task {
     Put { value: u64 },
@@ -41,7 +41,7 @@ pub enum Outcome {
 }
 
 // The steps of a call and its failed exchanges; both stop at 4,294,967,295.
-#[derive(Clone, Copy, PartialEq, Eq, Debug)]
+#[derive(Clone, Copy, Default, PartialEq, Eq, Debug)]
 pub struct Counts {
     pub steps: u32,
     pub failed: u32,
@@ -60,39 +60,24 @@ impl Call {
     {
         Call {
             task,
-            counts: Counts {
-                steps: 0,
-                failed: 0,
-            },
+            counts: Counts::default(),
         }
     }
 
     // The call with one step more.
-    pub(crate) fn stepped(self) -> Call
+    pub(crate) fn stepped(mut self) -> Call
         ensures { result ≡ one_step self }
     {
-        let steps = self.counts.steps.saturating_add(1);
-        Call {
-            counts: Counts {
-                steps,
-                ..self.counts
-            },
-            ..self
-        }
+        self.counts.steps = self.counts.steps.saturating_add(1);
+        self
     }
 
     // The call with one failed exchange more.
-    pub(crate) fn missed(self) -> Call
+    pub(crate) fn missed(mut self) -> Call
         ensures { result ≡ one_failure self }
     {
-        let failed = self.counts.failed.saturating_add(1);
-        Call {
-            counts: Counts {
-                failed,
-                ..self.counts
-            },
-            ..self
-        }
+        self.counts.failed = self.counts.failed.saturating_add(1);
+        self
     }
 }
 
@@ -101,13 +86,4 @@ impl Call {
 pub struct Answer {
     pub outcome: Outcome,
     pub counts: Counts,
-}
-
-// What a step returns.
-#[derive(Clone, Copy, PartialEq, Eq, Debug)]
-pub enum Progress {
-    // The call goes on.
-    On,
-    // The call has ended, and its seat is idle.
-    Answered(Answer),
 }

@@ -1,10 +1,10 @@
 // Dealings with a ring, as data.
 ghost use Rattle.std.specs.Prelude.{◌≡◌, None};
 ghost use Rattle.ring.specs.Dealings.{deal};
-ghost use Rattle.ring.specs.Rings.{ring_of};
+ghost use Rattle.ring.specs.Rings.{ring_of, dealt};
 
 use crate::board::Board;
-use crate::calls::Progress;
+use crate::calls::Answer;
 use memory::refusals::Refusal;
 use memory::rules::Memory;
 
@@ -21,7 +21,8 @@ pub enum Dealing {
 #[derive(Clone, Copy, PartialEq, Eq, Debug)]
 pub enum Reply {
     Begun,
-    Stepped(Progress),
+    // The answer of the call; none where it goes on. An Option of an Option would not say which of the two is none.
+    Stepped(Option<Answer>),
 }
 
 // A dealing and, once it was carried out, what came of it.
@@ -46,23 +47,18 @@ impl Entry {
 impl Board {
     // Carries out one dealing.
     pub fn deal<M: Memory>(&mut self, memory: &mut M, dealing: Dealing) -> Result<Reply, Refusal>
-        ensures after { record { ring = ring_of (M.cells memory.new) self.new; answer = result } ≡ deal M.bounds (ring_of (M.cells memory.old) self.old) dealing }
+        ensures after { dealt (M.cells memory.new) self.new result ≡ deal M.Element.LIMITS (ring_of (M.cells memory.old) self.old) dealing }
         ensures apart { M.frame memory.new ≡ M.frame memory.old }
     {
-        let reply = match dealing {
+        match dealing {
             Dealing::BeginPut { seat, value } => {
-                self.begin_put(memory, seat, value)?;
-                Reply::Begun
+                self.begin_put(memory, seat, value).map(|()| Reply::Begun)
             }
-            Dealing::BeginTake { seat } => {
-                self.begin_take(memory, seat)?;
-                Reply::Begun
-            }
-            Dealing::Step { seat } => Reply::Stepped(self.step(memory, seat)?),
+            Dealing::BeginTake { seat } => self.begin_take(memory, seat).map(|()| Reply::Begun),
+            Dealing::Step { seat } => self.step(memory, seat).map(Reply::Stepped),
             Dealing::RunAlone { seat, count } => {
-                Reply::Stepped(self.run_alone(memory, seat, count)?)
+                self.run_alone(memory, seat, count).map(Reply::Stepped)
             }
-        };
-        Ok(reply)
+        }
     }
 }

@@ -1,10 +1,41 @@
 // The look: which way a call goes once it has read a cell and the cell before it.
-ghost use Rattle.std.specs.Prelude.{◌≡◌, ◌+◌, ◌-◌, ◌%◌, ◌<◌};
-ghost use Rattle.memory.specs.Cells.{Within};
+ghost use Rattle.std.specs.Prelude.{◌≡◌, ◌+◌, ◌-◌, ◌%◌, ◌<◌, ◌≤◌};
+ghost use Rattle.memory.specs.Cells.{before};
 ghost use Rattle.ring.specs.Looks.{previous, next, expected_round, put_verdict, take_verdict, verdict_of};
 
-use crate::calls::{Call, Outcome, Task};
+use crate::calls::{Outcome, Task};
 use memory::cells::{Cell, Limits};
+
+// The indices of a ring of so many cells, round and round.
+#[derive(Clone, Copy)]
+pub(crate) struct Circle {
+    pub(crate) size: u16,
+}
+
+impl Circle {
+    // The index before this one. That it would be 0 in a ring of no cells is a formality: no dealings reach one.
+    #[tactic(auto, using(crate::proofs::Indices::previous_remainder))]
+    pub(crate) fn before(self, index: u16) -> u16
+        ensures value { result ≡ previous self.size index }
+        ensures remainder { index < self.size → result ≡ (index + self.size - 1) % self.size }
+    {
+        if index == 0 { self.last() } else { index - 1 }
+    }
+
+    // The index after this one.
+    pub(crate) fn after(self, index: u16) -> u16
+        ensures value { result ≡ next self.size index }
+        ensures remainder { index < self.size → result ≡ (index + 1) % self.size }
+    {
+        if index < self.last() { index + 1 } else { 0 }
+    }
+
+    fn last(self) -> u16
+        ensures { result ≡ self.size - 1 }
+    {
+        self.size.saturating_sub(1)
+    }
+}
 
 // Where a look leads.
 #[derive(Clone, Copy)]
@@ -19,96 +50,80 @@ pub(crate) enum Verdict {
     Onward,
 }
 
-// The index before this one, round the ring.
-pub(crate) fn index_before(size: u16, index: u16) -> u16
-    requires { 0 < size }
-    ensures value { result ≡ previous size index }
-    ensures remainder { index < size → result ≡ (index + size - 1) % size }
-{
-    if index == 0 { size - 1 } else { index - 1 }
+// What a call has seen at a look: the cell at an index and, before it, the cell at the previous index. The memory's limits
+// hold of the later one.
+#[derive(Clone, Copy)]
+pub(crate) struct Sight {
+    pub(crate) limits: Limits,
+    pub(crate) circle: Circle,
+    pub(crate) index: u16,
+    pub(crate) previous: Cell,
+    pub(crate) cell: Cell,
+    pub(crate) ghost within: { cell.round ≤ limits.round },
 }
 
-// The index after this one, round the ring.
-pub(crate) fn index_after(size: u16, index: u16) -> u16
-    ensures value { result ≡ next size index }
-    ensures remainder { index < size → result ≡ (index + 1) % size }
-{
-    match index.checked_add(1) {
-        Some(next) if next < size => next,
-        _ => 0,
-    }
-}
-
-// The round at which a put finds the cell at the index empty, by the cell before it. It may be one more than the largest
-// round of 32 bits.
-fn expected_round(previous: Cell, index: u16) -> u64
-    ensures { result ≡ expected_round previous index }
-{
-    let round = previous.round as u64;
-    match (previous.is_filled(), index == 0) {
-        (true, true) => round + 1,
-        (true, false) | (false, true) => round,
-        (false, false) => round.saturating_sub(1),
-    }
-}
-
-impl Call {
-    // Where the call goes, which has read a cell at the index, and before it the cell at the previous index.
-    pub(crate) fn judge(
-        self,
-        limits: Limits,
-        size: u16,
-        index: u16,
-        previous: Cell,
-        cell: Cell,
-    ) -> Verdict
-        requires { (0 < size) × (Within limits cell) }
-        ensures { result ≡ verdict_of limits size self.task index previous cell }
+impl Sight {
+    // Where the call goes.
+    pub(crate) fn judge(self, task: Task) -> Verdict
+        ensures { result ≡ verdict_of self.limits self.circle.size task self.index self.previous self.cell }
     {
-        match self.task {
-            Task::Put { value } => judge_put(limits, size, value, index, previous, cell),
-            Task::Take => judge_take(limits, size, index, previous, cell),
+        match task {
+            Task::Put { value } => self.judge_put(value),
+            Task::Take => self.judge_take(),
         }
     }
-}
 
-fn judge_put(
-    limits: Limits,
-    size: u16,
-    value: u64,
-    index: u16,
-    previous: Cell,
-    cell: Cell,
-) -> Verdict
-    requires { 0 < size }
-    ensures { result ≡ put_verdict limits size value index previous cell }
-{
-    let ordered = previous.is_before(index_before(size, index) as usize, cell, index as usize);
-    let round = expected_round(previous, index);
-    let last = limits.round as u64;
-    match (previous.is_filled(), cell.is_filled(), ordered) {
-        (true, false, _) | (false, false, false) if round >= last => Verdict::Answer(Outcome::Worn),
-        (true, false, _) | (false, false, false) => {
-            let round = round as u32;
-            Verdict::Exchange(Cell { value: 0, round }, Cell { value, round })
+    fn judge_put(self, value: u64) -> Verdict
+        ensures { result ≡ put_verdict self.limits self.circle.size value self.index self.previous self.cell }
+    {
+        let ordered = self.is_ordered();
+        let round = self.expected_round();
+        let last = self.limits.round as u64;
+        match (self.previous.is_filled(), self.cell.is_filled(), ordered) {
+            (true, false, _) | (false, false, false) if round >= last => {
+                Verdict::Answer(Outcome::Worn)
+            }
+            (true, false, _) | (false, false, false) => {
+                let round = round as u32;
+                Verdict::Exchange(Cell { value: 0, round }, Cell { value, round })
+            }
+            (true, true, false) => Verdict::Note(Outcome::Full),
+            _ => Verdict::Onward,
         }
-        (true, true, false) => Verdict::Note(Outcome::Full),
-        _ => Verdict::Onward,
     }
-}
 
-fn judge_take(limits: Limits, size: u16, index: u16, previous: Cell, cell: Cell) -> Verdict
-    requires { (0 < size) × (Within limits cell) }
-    ensures { result ≡ take_verdict limits size index previous cell }
-{
-    let ordered = previous.is_before(index_before(size, index) as usize, cell, index as usize);
-    match (ordered, cell.is_filled()) {
-        (true, _) => Verdict::Onward,
-        (false, false) => Verdict::Answer(Outcome::Empty),
-        (false, true) if cell.round == limits.round => Verdict::Answer(Outcome::Worn),
-        (false, true) => {
-            let round = cell.round + 1;
-            Verdict::Exchange(cell, Cell { value: 0, round })
+    fn judge_take(self) -> Verdict
+        ensures { result ≡ take_verdict self.limits self.circle.size self.index self.previous self.cell }
+    {
+        match (self.is_ordered(), self.cell.is_filled()) {
+            (true, _) => Verdict::Onward,
+            (false, false) => Verdict::Answer(Outcome::Empty),
+            (false, true) if self.cell.round == self.limits.round => Verdict::Answer(Outcome::Worn),
+            (false, true) => {
+                let round = self.cell.round + 1;
+                Verdict::Exchange(self.cell, Cell { value: 0, round })
+            }
+        }
+    }
+
+    // Whether the previous cell is before this one.
+    fn is_ordered(self) -> bool
+        ensures { result ≡ before self.previous (previous self.circle.size self.index) self.cell self.index }
+    {
+        let at = self.circle.before(self.index) as usize;
+        self.previous.is_before(at, self.cell, self.index as usize)
+    }
+
+    // The round at which a put finds the cell empty, by the cell before it. It may be one more than the largest round of
+    // 32 bits.
+    fn expected_round(self) -> u64
+        ensures { result ≡ expected_round self.previous self.index }
+    {
+        let round = self.previous.round as u64;
+        match (self.previous.is_filled(), self.index == 0) {
+            (true, true) => round + 1,
+            (true, false) | (false, true) => round,
+            (false, false) => round.saturating_sub(1),
         }
     }
 }

@@ -1,19 +1,19 @@
 // A seat, and the steps of the call that it carries.
-ghost use Rattle.std.specs.Prelude.{◌≡◌, ◌<◌};
+ghost use Rattle.std.specs.Prelude.{◌≡◌, Some};
 ghost use Rattle.memory.specs.Cells.{Within};
-ghost use Rattle.ring.specs.declared.calls.Progress.TheVariants.{Answered};
 ghost use Rattle.ring.specs.declared.seat.Seat.TheVariants.{Idle};
-ghost use Rattle.ring.specs.Looks.{cell_at};
+ghost use Rattle.ring.specs.Looks.{cell_at, verdict_of};
 ghost use Rattle.ring.specs.Rings.{is_idle};
-ghost use Rattle.ring.specs.Seats.{hint_of, hinted, after_answer, step_seat};
+ghost use Rattle.ring.specs.Seats.{hint_of, hinted, step_seat};
 
-use crate::calls::{Answer, Call, Outcome, Progress, Task};
-use crate::looks::{Verdict, index_after, index_before};
+use crate::calls::{Answer, Call, Outcome, Task};
+use crate::looks::{Circle, Sight, Verdict};
 use memory::cells::Cell;
-use memory::rules::{Exchanged, Memory};
+use memory::elements::Element;
+use memory::rules::Memory;
 
 // Where a put and where a take begins to look.
-#[derive(Clone, Copy)]
+#[derive(Clone, Copy, Default)]
 pub struct Hints {
     pub put: u16,
     pub take: u16,
@@ -43,12 +43,34 @@ impl Hints {
 // with a ring lead outside.
 fn read<M: Memory>(memory: &M, index: u16) -> Cell
     ensures value { result ≡ cell_at (M.cells memory.now) index }
-    ensures within { Within M.bounds result }
+    ensures within { Within M.Element.LIMITS result }
 {
     match memory.look(index as usize) {
         Some(cell) => cell,
         None => Cell::FRESH,
     }
+}
+
+// The cell at an index, and where a look at it leads that has read the previous cell before.
+fn look<M: Memory>(
+    memory: &M,
+    circle: Circle,
+    task: Task,
+    index: u16,
+    previous: Cell,
+) -> (Cell, Verdict)
+    ensures cell { result.0 ≡ cell_at (M.cells memory.now) index }
+    ensures verdict { result.1 ≡ verdict_of M.Element.LIMITS circle.size task index previous (cell_at (M.cells memory.now) index) }
+{
+    let cell = read(memory, index);
+    let sight = Sight {
+        limits: M::Element::LIMITS,
+        circle,
+        index,
+        previous,
+        cell,
+    };
+    (cell, sight.judge(task))
 }
 
 // A seat is idle, or carries a call. Each case but the first is where the call stands: what its next step does, with all
@@ -72,71 +94,57 @@ impl Seat {
     pub(crate) fn is_idle(&self) -> bool
         ensures { result ≡ is_idle self.now }
     {
-        match *self {
-            Seat::Idle => true,
-            _ => false,
-        }
+        matches!(self, Seat::Idle)
     }
 
-    // One step of the call that the seat carries: one access to a cell or to a hint.
+    // One step of the call that the seat carries: one access to a cell or to a hint. None: the call goes on.
     pub(crate) fn step<M: Memory>(
         &mut self,
         memory: &mut M,
-        size: u16,
+        circle: Circle,
         hints: &mut Hints,
-    ) -> Progress
-        requires { 0 < size }
-        ensures after { record { cells = M.cells memory.new; hints = hints.new; seat = self.new; progress = result } ≡ step_seat M.bounds size (M.cells memory.old) hints.old self.old }
+    ) -> Option<Answer>
+        ensures after { record { cells = M.cells memory.new; hints = hints.new; seat = self.new; answer = result } ≡ step_seat M.Element.LIMITS circle.size (M.cells memory.old) hints.old self.old }
         ensures apart { M.frame memory.new ≡ M.frame memory.old }
     {
         *self = match *self {
             Seat::Idle => Seat::Idle,
             Seat::Start(call) => Seat::First(call.stepped(), hints.of(call.task)),
             Seat::First(call, index) => {
-                let previous = read(memory, index_before(size, index));
-                Seat::Look(call.stepped(), index, previous)
+                Seat::Look(call.stepped(), index, read(memory, circle.before(index)))
             }
             Seat::Look(call, index, previous) => {
-                let cell = read(memory, index);
+                let (cell, verdict) = look(memory, circle, call.task, index, previous);
                 let call = call.stepped();
-                match call.judge(memory.limits(), size, index, previous, cell) {
+                match verdict {
                     Verdict::Exchange(expected, new) => Seat::Exchange(call, index, expected, new),
                     Verdict::Note(outcome) => Seat::Note(call, index, outcome),
                     Verdict::Answer(outcome) => return self.end(call, outcome),
-                    Verdict::Onward => Seat::Look(call, index_after(size, index), cell),
+                    Verdict::Onward => Seat::Look(call, circle.after(index), cell),
                 }
             }
             Seat::Exchange(call, index, expected, new) => {
-                let answer = memory.exchange(index as usize, expected, new);
-                Seat::after_exchange(call.stepped(), size, index, expected, answer)
+                let call = call.stepped();
+                match memory.exchange(index as usize, expected, new) {
+                    Ok(()) => Seat::Note(call, circle.after(index), call.task.outcome(expected)),
+                    Err(_) => Seat::Start(call.missed()),
+                }
             }
             Seat::Note(call, index, outcome) => {
                 hints.write(call.task, index);
                 return self.end(call.stepped(), outcome);
             }
         };
-        Progress::On
-    }
-
-    // Where a call stands after an exchange of the expected cell at the index.
-    fn after_exchange(call: Call, size: u16, index: u16, expected: Cell, answer: Exchanged) -> Seat
-        ensures { result ≡ after_answer size call index expected answer }
-    {
-        match answer {
-            Exchanged::Done => {
-                let outcome = call.task.outcome(expected);
-                Seat::Note(call, index_after(size, index), outcome)
-            }
-            Exchanged::Differs | Exchanged::Unfit | Exchanged::NoCell => Seat::Start(call.missed()),
-        }
+        None
     }
 
     // Answers the call, and leaves the seat idle.
-    fn end(&mut self, call: Call, outcome: Outcome) -> Progress
-        ensures { (self.new ≡ Idle) × (result ≡ Answered (record { outcome = outcome; counts = call.counts })) }
+    fn end(&mut self, call: Call, outcome: Outcome) -> Option<Answer>
+        ensures idle { self.new ≡ Idle }
+        ensures answer { result ≡ Some (record { outcome = outcome; counts = call.counts }) }
     {
         *self = Seat::Idle;
-        Progress::Answered(Answer {
+        Some(Answer {
             outcome,
             counts: call.counts,
         })

@@ -1,14 +1,14 @@
 // The two-cell ring, worked, over tagged words.
 use crate::board::Board;
-use crate::calls::{Answer, Counts, Outcome, Progress};
+use crate::calls::{Answer, Counts, Outcome};
 use crate::dealings::{Dealing, Entry, Reply};
 use memory::refusals::Refusal;
-use rows::words::Words;
+use rows::row::Words;
 
 // What the last step of a call returns.
-fn answer(outcome: Outcome, steps: u32, failed: u32) -> Progress {
+fn answer(outcome: Outcome, steps: u32, failed: u32) -> Option<Answer> {
     let counts = Counts { steps, failed };
-    Progress::Answered(Answer { outcome, counts })
+    Some(Answer { outcome, counts })
 }
 
 // The same beside its dealing.
@@ -106,7 +106,7 @@ fn a_paused_put_is_not_told_that_a_line_of_one_is_full(rt: HostRuntime) {
 }
 
 // A put alone, by a board of two cells that meets other words of its size: both cells empty, at this round.
-fn put_at_round(round: u64) -> Result<Progress, Refusal> {
+fn put_at_round(round: u64) -> Result<Option<Answer>, Refusal> {
     let mut board = Board::unfilled();
     board.make(&mut Words::over(&mut [0; 2]))?;
     let mut row = [round << 48; 2];

@@ -1,8 +1,7 @@
-// Memories in lent rows: paired records and tagged words.
+// A memory in a lent row: paired records and tagged words.
 #![tactic(auto)]
 
 mod fill;
-pub mod records;
+pub mod row;
 #[cfg(test)]
 mod tests;
-pub mod words;

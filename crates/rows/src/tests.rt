@@ -3,10 +3,9 @@ ghost use Rattle.std.specs.Prelude.{◌≡◌};
 ghost use Rattle.memory.specs.Packing.{word_cells};
 ghost use Rattle.memory.specs.Rules.{cleared};
 
-use crate::records::Records;
-use crate::words::Words;
+use crate::row::{Records, Words};
 use memory::cells::Cell;
-use memory::rules::{Exchanged, Memory};
+use memory::rules::{Declined, Memory};
 
 #[test]
 fn an_exchange_needs_a_cell_then_room_then_the_expected_cell(rt: HostRuntime) {
@@ -20,10 +19,13 @@ fn an_exchange_needs_a_cell_then_room_then_the_expected_cell(rt: HostRuntime) {
         value: 281_474_976_710_656,
         round: 0,
     };
-    assert_eq!(rt; words.exchange(2, reading, too_large), Exchanged::NoCell);
-    assert_eq!(rt; words.exchange(1, reading, too_large), Exchanged::Unfit);
-    assert_eq!(rt; words.exchange(1, reading, reading), Exchanged::Differs);
-    assert_eq!(rt; words.exchange(1, Cell::FRESH, reading), Exchanged::Done);
+    assert_eq!(rt;
+        words.exchange(2, reading, too_large),
+        Err(Declined::NoCell)
+    );
+    assert_eq!(rt; words.exchange(1, reading, too_large), Err(Declined::Unfit));
+    assert_eq!(rt; words.exchange(1, reading, reading), Err(Declined::Differs));
+    assert_eq!(rt; words.exchange(1, Cell::FRESH, reading), Ok(()));
     assert_eq!(rt; words.look(1), Some(reading));
     assert_eq!(rt; row[1], 0x0003_0000_0000_0102);
 }
@@ -36,7 +38,7 @@ fn records_hold_the_largest_numbers(rt: HostRuntime) {
         value: u64::MAX,
         round: u32::MAX,
     };
-    assert_eq!(rt; records.exchange(0, Cell::FRESH, largest), Exchanged::Done);
+    assert_eq!(rt; records.exchange(0, Cell::FRESH, largest), Ok(()));
     records.clear(1, usize::MAX);
     assert_eq!(rt; &row, &[largest, Cell::FRESH]);
 }

@@ -1,46 +1,55 @@
 // The head of a trace: the make of the memory and its number of cells.
-ghost use Rattle.std.specs.Prelude.{◌≡◌, ◌≤◌, true, length, IfOk};
+ghost use Rattle.std.specs.Prelude.{◌≡◌, Some, decimal, ok_or};
+ghost use Rattle.memory.specs.declared.refusals.Refusal.TheVariants.{TraceHead};
 ghost use Rattle.memory.specs.Refusals.{unless};
-ghost use Rattle.memory.specs.Sizes.{is_ring_size};
 ghost use Rattle.page.specs.Bytes.{field};
 ghost use Rattle.trace.specs.Heads.{kind_number, kind_of, length_causes, head_with, head_of};
 
 use memory::refusals::Refusal;
-use memory::sizes::is_ring_size;
+use memory::sizes::Size;
+use std::fmt;
 
 // The largest number of bytes of a trace.
 pub const MAX_LENGTH: usize = 65_536;
 
-// The make of a memory.
+// The make of a memory, and the number that stands for it in a trace.
 #[derive(Clone, Copy, PartialEq, Eq, Debug)]
 pub enum Kind {
-    Records,
-    Words,
-    Page,
+    Records = 1,
+    Words = 2,
+    Page = 3,
 }
 
-impl Kind {
-    // The number that stands for this kind in a trace.
-    pub fn number(self) -> u8
-        ensures { result ≡ kind_number self }
-    {
-        match self {
-            Kind::Records => 1,
-            Kind::Words => 2,
-            Kind::Page => 3,
+impl From<Kind> for u8 {
+    ghost from_gives = { λ kind number. number ≡ kind_number kind };
+
+    fn from(kind: Kind) -> u8 {
+        kind as u8
+    }
+}
+
+// A number that stands for no kind is a wrong field of the head.
+impl TryFrom<u8> for Kind {
+    type Error = Refusal;
+
+    ghost try_from_gives = { λ number result. result ≡ ok_or (kind_of number) TraceHead };
+
+    fn try_from(number: u8) -> Result<Kind, Refusal> {
+        match number {
+            1 => Ok(Kind::Records),
+            2 => Ok(Kind::Words),
+            3 => Ok(Kind::Page),
+            _ => Err(Refusal::TraceHead),
         }
     }
+}
 
-    // The kind of a number, if it stands for one.
-    pub fn from_number(number: u8) -> Option<Kind>
-        ensures { result ≡ kind_of number }
-    {
-        match number {
-            1 => Some(Kind::Records),
-            2 => Some(Kind::Words),
-            3 => Some(Kind::Page),
-            _ => None,
-        }
+// A kind is printed as its number.
+impl fmt::Display for Kind {
+    ghost output = { λ kind. Some (decimal (kind_number kind)) };
+
+    fn fmt<W: fmt::Write>(&self, f: &mut fmt::Formatter<W>) -> fmt::Result {
+        write!(f, "{}", u8::from(*self))
     }
 }
 
@@ -48,53 +57,41 @@ impl Kind {
 #[derive(Clone, Copy, PartialEq, Eq, Debug)]
 pub struct Head {
     pub kind: Kind,
-    // The number of cells.
-    pub size: u16,
+    // The number of cells, at most 256.
+    pub size: Size,
 }
 
 impl Head {
     // The head of these two fields: a number of a kind, and a size that is a power of two from 2 to 256.
     fn from_fields(kind: u8, size: u16) -> Result<Head, Refusal>
-        ensures answer { result ≡ head_with kind size }
-        ensures sized { IfOk result (λ head. is_ring_size head.size ≡ true) }
+        ensures { result ≡ head_with kind size }
     {
-        match Kind::from_number(kind) {
-            Some(kind) if size <= 256 && is_ring_size(size as usize) => Ok(Head { kind, size }),
+        let kind = Kind::try_from(kind)?;
+        match Size::new(size as usize) {
+            Some(size) if size.cells() <= 256 => Ok(Head { kind, size }),
             _ => Err(Refusal::TraceHead),
         }
     }
 }
 
-// Whether a trace has a length that is allowed, the version, and its own length in its head.
-fn check_length(bytes: &[u8]) -> Result<(), Refusal>
-    ensures { result ≡ unless (length_causes bytes.now) tt }
+// The number of a kind and the size that the head of a trace names, where the version and the length in it are right.
+fn memory_fields(bytes: &[u8]) -> Result<(u8, u16), Refusal>
+    ensures { result ≡ unless (length_causes bytes.now) (field 5 1 bytes.now, field 6 2 bytes.now) }
 {
-    let count = bytes.len();
-    if count < 8 || count > MAX_LENGTH || bytes[0] != 1 {
+    let [version, first, second, third, fourth, kind, high, low, ..] = *bytes else {
+        return Err(Refusal::TraceHead);
+    };
+    let length = u32::from_be_bytes([first, second, third, fourth]) as usize;
+    if bytes.len() > MAX_LENGTH || version != 1 || length != bytes.len() {
         return Err(Refusal::TraceHead);
     }
-    let length = u32::from_be_bytes([bytes[1], bytes[2], bytes[3], bytes[4]]);
-    if length as usize != count {
-        return Err(Refusal::TraceHead);
-    }
-    Ok(())
-}
-
-// The kind and the size that a head names.
-fn memory_fields(bytes: &[u8]) -> (u8, u16)
-    requires { 8 ≤ length bytes.now }
-    ensures kind { result.0 ≡ field 5 1 bytes.now }
-    ensures size { result.1 ≡ field 6 2 bytes.now }
-{
-    (bytes[5], u16::from_be_bytes([bytes[6], bytes[7]]))
+    Ok((kind, u16::from_be_bytes([high, low])))
 }
 
 // The head of a trace, from the bytes of the whole trace.
 pub fn read_head(bytes: &[u8]) -> Result<Head, Refusal>
-    ensures answer { result ≡ head_of bytes.now }
-    ensures sized { IfOk result (λ head. is_ring_size head.size ≡ true) }
+    ensures { result ≡ head_of bytes.now }
 {
-    check_length(bytes)?;
-    let (kind, size) = memory_fields(bytes);
+    let (kind, size) = memory_fields(bytes)?;
     Head::from_fields(kind, size)
 }

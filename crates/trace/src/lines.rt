@@ -1,21 +1,42 @@
 // The lines that are printed of a trace, each without its line end.
-ghost use Rattle.std.specs.Prelude.{◌≡◌, IfOk, string_bytes};
-ghost use Rattle.trace.specs.Lines.{ring_line, fault_line};
-
 use crate::head::Kind;
-use std::alloc::{AllocError, Global};
+use memory::refusals::Refusal;
+use std::fmt;
 
-// The first line: the number of cells and the make of the memory.
-pub fn ring_line(heap: Global, size: usize, kind: Kind) -> Result<String, AllocError>
-    ensures { IfOk result (λ s. string_bytes s ≡ ring_line size kind) }
-{
-    let number = kind.number();
-    format!(in heap; "ring {size} kind {number}")
+// A line that is printed of a trace.
+#[derive(Clone, Copy, PartialEq, Eq, Debug)]
+pub enum Line {
+    // The first line: the number of cells and the make of the memory.
+    Ring { size: usize, kind: Kind },
+    // The line of a trace that is refused: the number and the place of the refusal.
+    Fault { number: u8, place: usize },
 }
 
-// The line of a trace that is refused: the number and the place of the refusal.
-pub fn fault_line(heap: Global, number: u8, place: usize) -> Result<String, AllocError>
-    ensures { IfOk result (λ s. string_bytes s ≡ fault_line number place) }
-{
-    format!(in heap; "fault {number} {place}")
+impl fmt::Display for Line {
+    ghost use Rattle.std.specs.Prelude.{Some};
+    ghost use Rattle.trace.specs.Lines.{text_of};
+
+    ghost output = { λ line. Some (text_of line) };
+
+    fn fmt<W: fmt::Write>(&self, f: &mut fmt::Formatter<W>) -> fmt::Result {
+        match self {
+            Line::Ring { size, kind } => write!(f, "ring {size} kind {kind}"),
+            Line::Fault { number, place } => write!(f, "fault {number} {place}"),
+        }
+    }
+}
+
+// A trace that is refused has the line of its refusal.
+impl From<Refusal> for Line {
+    ghost use Rattle.std.specs.Prelude.{◌≡◌};
+    ghost use Rattle.trace.specs.Lines.{line_of_refusal};
+
+    ghost from_gives = { λ refusal line. line ≡ line_of_refusal refusal };
+
+    fn from(refusal: Refusal) -> Line {
+        Line::Fault {
+            number: refusal.number(),
+            place: refusal.place(),
+        }
+    }
 }

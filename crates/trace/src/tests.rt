@@ -1,24 +1,25 @@
 // Examples of heads: good ones, and one for each field that is wrong.
 use crate::head::{Head, Kind, read_head};
-use crate::lines::fault_line;
+use crate::lines::Line;
 use memory::refusals::Refusal;
+use memory::sizes::Size;
 use std::test::Fail;
+
+// A head with a size that a ring can have.
+fn head(kind: Kind, size: usize) -> Option<Head> {
+    let size = Size::new(size)?;
+    Some(Head { kind, size })
+}
 
 #[test]
 fn a_head_names_the_memory_and_its_size(rt: HostRuntime) {
     assert_eq!(rt;
-        read_head(&[1, 0, 0, 0, 8, 2, 0, 2]),
-        Ok(Head {
-            kind: Kind::Words,
-            size: 2,
-        })
+        read_head(&[1, 0, 0, 0, 8, 2, 0, 2]).ok(),
+        head(Kind::Words, 2)
     );
     assert_eq!(rt;
-        read_head(&[1, 0, 0, 0, 9, 3, 1, 0, 80]),
-        Ok(Head {
-            kind: Kind::Page,
-            size: 256,
-        })
+        read_head(&[1, 0, 0, 0, 9, 3, 1, 0, 80]).ok(),
+        head(Kind::Page, 256)
     );
 }
 
@@ -52,20 +53,13 @@ fn a_trace_has_8_to_65536_bytes(rt: HostRuntime) -> Result<(), Fail> {
     bytes[0..8].copy_from_slice(&[1, 0, 1, 0, 1, 2, 0, 2]);
     assert_eq!(rt; read_head(bytes), Err(Refusal::TraceHead));
     bytes[0..8].copy_from_slice(&[1, 0, 1, 0, 0, 2, 0, 2]);
-    assert_eq!(rt;
-        read_head(&bytes[0..65_536]),
-        Ok(Head {
-            kind: Kind::Words,
-            size: 2,
-        })
-    );
+    assert_eq!(rt; read_head(&bytes[0..65_536]).ok(), head(Kind::Words, 2));
     Ok(())
 }
 
 #[test]
 fn a_fault_has_its_number_and_place(rt: HostRuntime) -> Result<(), Fail> {
-    let refusal = Refusal::TraceHead;
-    let line = fault_line(rt.alloc(), refusal.number(), refusal.place())?;
+    let line = Line::from(Refusal::TraceHead).to_string(rt.alloc())?;
     assert_eq!(rt; line.as_str(), "fault 14 0");
     Ok(())
 }

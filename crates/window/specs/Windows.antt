@@ -1,5 +1,5 @@
 -- A part of a list of cells, and what lies around it.
-use Rattle.std.specs.Prelude.{◌≡◌, ℕ, ◌+◌, cond, ◌&&◌, List, length, take, drop, Some, None, Ok, Err, Option, Result, nat_le}
+use Rattle.std.specs.Prelude.{◌≡◌, ℕ, ◌+◌, if◌then◌else◌, ◌&&◌, List, length, take, drop, Some, None, Ok, Err, Option, Result, nat_le}
 use Rattle.memory.specs.declared.cells.Cell.{Cell}
 use Rattle.memory.specs.declared.cells.Limits.{Limits}
 use Rattle.memory.specs.declared.refusals.Refusal.{Refusal}
@@ -16,7 +16,7 @@ framed name start count cells frame = part name start count (take start cells) (
 
 -- what aiming a window at a part of these cells answers
 abbrev pub aimed : ℕ → ℕ → List Cell → Result (Unit {0}) Refusal
-aimed start count cells = cond (nat_le 1 count && nat_le (start + count) (length cells)) (Ok tt) (Err WindowOutside)
+aimed start count cells = if nat_le 1 count && nat_le (start + count) (length cells) then Ok tt else Err WindowOutside
 
 -- index `at` of the window is index `below` of the cells: the window shows what lies there, and an exchange there is the exchange here and leaves what lies around
 pub record SamePlace (start count : ℕ) (cells : List Cell) (at below : ℕ) : Type 0 where

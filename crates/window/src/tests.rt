@@ -4,10 +4,10 @@ ghost use Rattle.memory.specs.Rules.{cleared};
 
 use crate::window::Window;
 use memory::cells::{Cell, Limits};
+use memory::elements::Element;
 use memory::refusals::Refusal;
 use memory::rules::{Memory, clear_all};
-use rows::records::Records;
-use rows::words::Words;
+use rows::row::{Records, Words};
 use std::test::Fail;
 
 #[test]
@@ -28,20 +28,19 @@ fn a_window_ends_where_it_is_aimed(rt: HostRuntime) {
 }
 
 // What code that is generic in the memory sees of its constants.
-fn constants<M: Memory>(_memory: &M) -> Limits {
-    Limits {
-        value: M::LARGEST_VALUE,
-        round: M::LAST_ROUND,
-    }
+fn constants<M: Memory>(_memory: &M) -> Limits
+    ensures { result ≡ M.Element.LIMITS }
+{
+    M::Element::LIMITS
 }
 
 #[test]
 fn a_window_passes_the_constants_on(rt: HostRuntime) {
     let mut row = [0u64; 2];
     let mut words = Words::over(&mut row);
-    assert_eq!(rt; constants(&words), words.limits());
+    assert_eq!(rt; constants(&words), u64::LIMITS);
     let mut window = Window::over(&mut words);
-    assert_eq!(rt; constants(&window), window.limits());
+    assert_eq!(rt; constants(&window), u64::LIMITS);
     assert_eq!(rt;
         constants(&Window::over(&mut window)),
         Limits {

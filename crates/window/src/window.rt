@@ -1,18 +1,21 @@
 // A window: a part of a memory, which is a memory too.
-ghost use Rattle.std.specs.Prelude.{◌≡◌, ◌+◌, length, is_ok, if◌then◌else◌};
+ghost use Rattle.std.specs.Prelude.{◌≡◌, ◌+◌, ◌^◌, ◌<◌, ◌≤◌, length, is_ok, if◌then◌else◌};
 ghost use Rattle.memory.specs.declared.cells.Cell.{Cell};
 ghost use Rattle.window.specs.Windows.{windowed, framed, aimed, Reaches, SamePart};
 
-use memory::cells::{Cell, Limits};
+use memory::cells::Cell;
 use memory::refusals::Refusal;
-use memory::rules::{Exchanged, Memory};
+use memory::rules::{Declined, Memory};
 
 // The cells of a lent memory from `start` on, `count` of them. No call touches a cell outside.
 #[derive(Drop)]
-pub struct Window<'a, M> {
+pub struct Window<'a, M: Memory> {
     below: &'a mut M,
     start: usize,
     count: usize,
+    // It lies within the memory below: that memory never changes its size.
+    ghost inside: { start + count ≤ length (M.cells below.now) },
+    ghost counted: { start + count < 2 ^ 64 },
 }
 
 impl<'a, M: Memory> Window<'a, M> {
@@ -48,69 +51,49 @@ impl<'a, M: Memory> Window<'a, M> {
         Ok(())
     }
 
-    // The index below at which the window ends. It is clipped to the memory below: aiming has tested that, but the type
-    // does not say so.
-    fn end(&self) -> usize
-        ensures { result ≡ self.now.start + length (windowed self.now.start self.now.count (M.cells self.now.below.now)) }
-    {
-        self.start + self.count.min(self.below.size().saturating_sub(self.start))
-    }
-
     // The index below of an index of the window; none outside.
     fn reach(&self, at: usize) -> Option<usize>
         ensures { Reaches self.now.start self.now.count (M.cells self.now.below.now) at result }
     {
-        let end = self.end();
-        if at < end - self.start {
+        if at < self.count {
             Some(self.start + at)
         } else {
             None
         }
     }
 
-    // The start and count below of a start and count of the window, as far as they lie in it.
+    // The start and count below of a start and count of the window, as far as they lie in it. They stay two numbers, as in
+    // `clear`: a type around them would be taken apart at once.
     fn cover(&self, start: usize, count: usize) -> (usize, usize)
         ensures { SamePart self.now.start self.now.count (M.cells self.now.below.now) start count result.0 result.1 }
     {
-        let end = self.end();
-        let first = self.start + start.min(end - self.start);
-        (first, count.min(end - first))
+        let skipped = start.min(self.count);
+        (self.start + skipped, count.min(self.count - skipped))
     }
 }
 
 impl<'a, M: Memory> Memory for Window<'a, M> {
-    const LARGEST_VALUE: u64 = M::LARGEST_VALUE;
-
-    const LAST_ROUND: u32 = M::LAST_ROUND;
+    type Element = M::Element;
 
     ghost cells = { λ w. windowed w.start w.count (M.cells w.below.now) };
 
-    ghost bounds = { M.bounds };
-
     ghost frame = { λ w. framed w.below.ghost_name w.start w.count (M.cells w.below.now) (M.frame w.below.now) };
 
-    fn limits(&self) -> Limits {
-        self.below.limits()
-    }
-
+    #[tactic(auto, using(crate::proofs::Parts::length_of_window))]
     fn size(&self) -> usize {
-        self.end() - self.start
+        self.count
     }
 
     fn look(&self, at: usize) -> Option<Cell> {
-        match self.reach(at) {
-            Some(place) => self.below.look(place),
-            None => None,
-        }
+        self.below.look(self.reach(at)?)
     }
 
-    fn exchange(&mut self, at: usize, expected: Cell, new: Cell) -> Exchanged {
-        match self.reach(at) {
-            Some(place) => self.below.exchange(place, expected, new),
-            None => Exchanged::NoCell,
-        }
+    fn exchange(&mut self, at: usize, expected: Cell, new: Cell) -> Result<(), Declined> {
+        let place = self.reach(at).ok_or(Declined::NoCell)?;
+        self.below.exchange(place, expected, new)
     }
 
+    #[tactic(auto, using(crate::proofs::Parts::size_kept))]
     fn clear(&mut self, start: usize, count: usize) {
         let (start, count) = self.cover(start, count);
         self.below.clear(start, count);

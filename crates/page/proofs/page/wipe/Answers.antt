@@ -1,33 +1,24 @@
-use Rattle.std.proofs.Common.{◌≡◌, ◌-◌, List, length, set, sym, refl, ap, ◌∙◌, arith, rules}
-use Rattle.memory.specs.declared.cells.Cell.{Cell}
-use Rattle.memory.specs.Cells.{fresh}
-use Rattle.memory.proofs.Overwriting.{overwritten_none, overwritten_more, overwritten_clip, length-overwritten}
+use Rattle.std.proofs.Common.{◌≡◌, ◌+◌, ◌-◌, ◌*◌, min, length, replicate, ap, refl, ◌∙◌, arith, rules}
+use borrow.Rule.Slice.PartMut.{mid_len}
+use Rattle.std.proofs.lemmas.List.{length-replicate}
 use Rattle.page.specs.Pages.{page_cells}
+use Rattle.page.proofs.PageCells.{room, cleared_cells, cleared_none, put_others}
 use Rattle.page.proofs.page.wipe.Goals as goal
 
-pub write-requires : goal.write-requires
-write-requires c =
-    let cs = page_cells c.args.bytes.now in
-    let l = ap length c.loop-i.invariant.0 ∙ length-overwritten fresh cs c.args.start (c.loop-i.i - c.args.start) in
-    (omega arith, refl)
+pub returns-then-start-end : goal.returns-then-start-end
+returns-then-start-end c =
+    let bs = c.args.bytes.now in
+    let s = c.args.start in
+    let end = c.min-end.result in
+    let p = 8 + 8 * s in
+    let n = 8 + 8 * end - p in
+    let z = c.fill.new.self in
+    let h : end ≡ min (s + c.args.count) (length (page_cells bs)) = search rules in
+    let e : z ≡ replicate n 0 = rw (mid_len p (8 + 8 * end) bs (omega (arith, room bs))) at (c.fill.ensures.after (λ y q. q)) in
+    record {
+      cells = cleared_cells bs s c.args.count end h z p n c.if-start-end.true e refl (omega arith);
+      others = put_others bs s (end - s) p n (omega arith) (omega arith) refl (omega arith) z (ap length e ∙ length-replicate n 0);
+    }
 
-pub loop-i-init : goal.loop-i-init
-loop-i-init c =
-    let z : c.args.start - c.args.start ≡ 0 = omega arith in
-    (rw z (sym (overwritten_none fresh (page_cells c.args.bytes.now) c.args.start)), refl)
-
-pub loop-i-preserved : goal.loop-i-preserved
-loop-i-preserved c =
-    let cs = page_cells c.args.bytes.now in
-    let i = c.loop-i.i in (
-      c.write.ensures.cells ∙ ap (λ (x : List Cell). set x i fresh) c.loop-i.invariant.0 ∙ overwritten_more fresh cs c.args.start i (omega arith),
-      c.write.ensures.others ∙ c.loop-i.invariant.1,
-    )
-
-pub returns : goal.returns
-returns c = record {
-  cells =
-      c.loop-i.invariant.0
-      ∙ overwritten_clip fresh (page_cells c.args.bytes.now) c.args.start c.args.many c.min-end.result c.loop-i.i (search rules) c.loop-i.auto.i c.loop-i-test.false c.loop-i.auto.i-end;
-  others = c.loop-i.invariant.1;
-}
+pub returns-else-start-end-clause-cells : goal.returns-else-start-end-clause-cells
+returns-else-start-end-clause-cells c = cleared_none c.args.bytes.now c.args.start c.args.count c.min-end.result (search rules) c.if-start-end.false
