@@ -75,10 +75,3 @@ overwritten_part x ys s n first end i p q o h =
     let l = length-take (end - first) (drop first ys) in
     let m = length-drop first ys in
     overwritten_slice x ys first (end - first) i (omega arith) (omega arith) ∙ overwritten_clipped x ys s n first (end - first) p (omega arith)
-
--- a loop from `s` that ends at the end of the list or after n elements, whichever comes first
-pub overwritten_clip : {X : Type 0} (x : X) (ys : List X) (s n end i : ℕ) → end ≡ min (s + n) (length ys) → s ≤ i → end ≤ i → (s ≤ end → i ≤ end) → overwritten x ys s (i - s) ≡ overwritten x ys s n
-overwritten_clip x ys s n end i e a b c = elim (cases_lt (s + n) (length ys)) [
-  | inl h ↦ ap (λ (k : ℕ). overwritten x ys s k) (let j : i ≤ end = c (omega arith) in omega arith)
-  | inr h ↦ overwritten_all x ys s (i - s) n (omega arith) h
-]

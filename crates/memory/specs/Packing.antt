@@ -4,9 +4,11 @@ use Rattle.memory.specs.declared.cells.Cell.{Cell}
 use Rattle.memory.specs.declared.cells.Limits.{Limits}
 use Rattle.memory.specs.Cells.{limited}
 
+-- the number of a cell
 abbrev pub packed : ℕ → Cell → ℕ
 packed bits c = c.round * 2 ^ bits + c.value
 
+-- the cell of a number
 abbrev pub unpacked : ℕ → ℕ → Cell
 unpacked bits word = record { value = word % 2 ^ bits; round = word / 2 ^ bits }
 

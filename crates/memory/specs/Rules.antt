@@ -20,9 +20,11 @@ abbrev pub answer_at : {X : Type 0} → Limits → Option Cell → Cell → Cell
 answer_at limits None expected new x = Err NoCell
 answer_at limits (Some found) expected new x = if fits limits new then if alike found expected then Ok x else Err Differs else Err Unfit
 
+-- the same at an index of a list of cells
 abbrev pub exchange_checked : {X : Type 0} → Limits → List Cell → ℕ → Cell → Cell → X → Result X Declined
 exchange_checked limits cells i expected new x = answer_at limits (look_at cells i) expected new x
 
+-- what an exchange answers: nothing more where it is done
 abbrev pub exchange_answer : Limits → List Cell → ℕ → Cell → Cell → Result (Unit {0}) Declined
 exchange_answer limits cells i expected new = exchange_checked limits cells i expected new tt
 
@@ -31,6 +33,7 @@ abbrev pub stored_by : Result (Unit {0}) Declined → List Cell → ℕ → Cell
 stored_by (Ok done) cells i new = slice_set cells i new
 stored_by (Err cause) cells i new = cells
 
+-- the cells that an exchange leaves
 abbrev pub after_exchange : Limits → List Cell → ℕ → Cell → Cell → List Cell
 after_exchange limits cells i expected new = stored_by (exchange_answer limits cells i expected new) cells i new
 

@@ -11,9 +11,10 @@ pub struct Cell {
 }
 
 impl Cell {
-    // An empty cell that has never been emptied.
+    // An empty cell that has never been emptied: a constant, so that tables and other constants can be made of it.
     pub const FRESH: Cell = Cell { value: 0, round: 0 };
 
+    // Whether the cell holds a value. Value 0 stands for none, as in every form of a cell: an Option would not fit a word.
     pub fn is_filled(self) -> bool
         ensures { result ≡ filled self }
     {

@@ -7,7 +7,8 @@ ghost use Rattle.memory.specs.Cells.{fresh, limited, fits, Proper, Within};
 
 use crate::cells::{Cell, Limits};
 
-// An element holds one cell: a record is the cell itself, a tagged word has it packed in a number.
+// An element holds one cell: a record is the cell itself, a tagged word has it packed in a number. The two ways are methods, and
+// no From and TryFrom, since a cell made from a bare number would not say that the number is a word.
 pub trait Element: Copy {
     // The largest value and the last round that a cell can have in this form.
     const LIMITS: Limits;

@@ -5,8 +5,11 @@ ghost use Rattle.memory.specs.Refusals.{number_of, place_of, layer_of};
 // The part of the line whose rule a refused call breaks.
 #[derive(Clone, Copy, PartialEq, Eq, Debug)]
 pub enum Layer {
+    // The ring and its seats.
     Ring,
+    // The memories and windows on them.
     Memory,
+    // The trace that is replayed.
     Trace,
 }
 
@@ -84,6 +87,7 @@ impl Refusal {
         }
     }
 
+    // The layers are ranges of numbers, by rule: a new cause has its layer from its place in the table.
     pub fn layer(self) -> Layer
         ensures { result ≡ layer_of self }
     {

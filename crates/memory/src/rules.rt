@@ -57,13 +57,16 @@ pub trait Memory {
         Ok(element)
     }
 
-    // Puts a new cell in the place of the expected one, or says why not.
+    // Puts a new cell in the place of the expected one, or says why not. It takes an index and two cells, as the rule is told:
+    // a type for the two cells would be taken apart at once. That the rest stays (`apart`) is a clause, here and wherever a
+    // memory is lent on, since it compares before and after, which no field of a type can.
     fn exchange(&mut self, at: usize, expected: Cell, new: Cell) -> Result<(), Declined>
         ensures answer { result ≡ exchange_answer Self.Element.LIMITS (cells self.old) at expected new }
         ensures after { cells self.new ≡ after_exchange Self.Element.LIMITS (cells self.old) at expected new }
         ensures apart { frame self.new ≡ frame self.old };
 
-    // Makes the cells from `start` on, `count` of them, empty at round 0; indices outside are skipped.
+    // Makes the cells from `start` on, `count` of them, empty at round 0; indices outside are skipped. The two are any
+    // numbers, and their sum need not be one, so a range would not say it.
     fn clear(&mut self, start: usize, count: usize)
         ensures after { cells self.new ≡ cleared (cells self.old) start count }
         ensures apart { frame self.new ≡ frame self.old };

@@ -4,7 +4,8 @@ ghost use Rattle.memory.specs.Sizes.{is_ring_size, RingSize};
 
 use std::marker::Model;
 
-// Whether a ring can have this size: a power of two from 2 to 4,096.
+// Whether a ring can have this size: a power of two from 2 to 4,096. It counts the one bits and compares, word for word as the
+// size is defined.
 #[tactic(auto, using(crate::proofs::Powers::decides_ring_size))]
 pub fn is_ring_size(size: usize) -> bool
     ensures value { result ≡ is_ring_size size }
@@ -30,7 +31,7 @@ impl Model for Size {
 }
 
 impl Size {
-    // The size of so many cells; none that no ring can have.
+    // The size of so many cells; none that no ring can have. Under `then` the narrowing would stand in a closure of its own.
     pub fn new(cells: usize) -> Option<Size>
         ensures { result ≡ (if is_ring_size cells then Some cells else None) }
     {

@@ -1,12 +1,13 @@
 // A cell in one tagged word: the round stands above the 48 bits of the value.
-ghost use Rattle.std.specs.Prelude.{◌≡◌, refl};
+ghost use Rattle.std.specs.Prelude.{refl};
 ghost use Rattle.std.proofs.Common.{lit≤};
 ghost use Rattle.memory.specs.Packing.{packed, unpacked, tagged};
 
 use crate::cells::{Cell, Limits};
 use crate::elements::Element;
 
-// The largest value and the last round that a tagged word holds.
+// The largest value and the last round that a tagged word holds. They have a name of their own for other forms of a word: a
+// constant that a trait provides cannot be read in the value of another.
 pub const LIMITS: Limits = Limits {
     value: 281_474_976_710_655,
     round: 65_535,
@@ -35,6 +36,7 @@ impl Element for u64 {
         }
     }
 
+    // Under `then` the sum would stand in a closure of its own.
     fn holding(cell: Cell) -> Option<u64> {
         if Self::LIMITS.admit(cell) {
             Some(cell.round as u64 * ROUND_UNIT + cell.value)

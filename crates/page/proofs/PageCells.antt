@@ -10,7 +10,7 @@ use Rattle.memory.specs.declared.refusals.Refusal.{Refusal}
 use Rattle.memory.specs.Cells.{fresh}
 use Rattle.memory.specs.Lists.{overwritten}
 use Rattle.memory.specs.Rules.{cleared}
-use Rattle.memory.proofs.Overwriting.{overwritten_none, overwritten_clip}
+use Rattle.memory.proofs.Overwriting.{overwritten_none, overwritten_clipped}
 use Rattle.page.specs.Bytes.{cell_from}
 use Rattle.page.specs.Pages.{checked_head, checked, cells_in, cells_by, page_cells, others_by, other_bytes}
 
@@ -141,14 +141,15 @@ wiped_cells bs z s k p n some h ez at many =
     ∙ ap₂ (λ (i j : ℕ). overwritten fresh (b ++ (m ++ e)) i j) lb lm
     ∙ ap (λ (cs : List Cell). overwritten fresh cs s k) (sym (part_cells bs s k p n some h at many))
 
--- a clear from index s that ends at the end of the page or after `count` cells, whichever comes first
-module _ (bs : List ℕ) (s count end : ℕ) (e : end ≡ min (s + count) (length (page_cells bs))) where
-  pub cleared_cells : (z : List ℕ) (p n : ℕ) → s < end → z ≡ replicate n 0 → p ≡ 8 + 8 * s → n ≡ 8 * (end - s) → page_cells (put_mid p n bs z) ≡ cleared (page_cells bs) s count
-  cleared_cells z p n h ez at many =
-      wiped_cells bs z s (end - s) p n (omega arith) (omega arith) ez at many
-      ∙ overwritten_clip fresh (page_cells bs) s count end end e (omega arith) (omega arith) (λ k. omega arith)
+-- a clear of `count` cells from index s on, clipped to the page: from `first` up to `end`
+module _ (bs : List ℕ) (s count first end : ℕ) (f : first ≡ min s (length (page_cells bs))) (e : end ≡ min (first + count) (length (page_cells bs))) where
+  clipped_cells : overwritten fresh (page_cells bs) first (end - first) ≡ cleared (page_cells bs) s count
+  clipped_cells = overwritten_clipped fresh (page_cells bs) s count first (end - first) f (omega arith)
 
-  pub cleared_none : end ≤ s → page_cells bs ≡ cleared (page_cells bs) s count
+  pub cleared_cells : (z : List ℕ) (p n : ℕ) → first < end → z ≡ replicate n 0 → p ≡ 8 + 8 * first → n ≡ 8 * (end - first) → page_cells (put_mid p n bs z) ≡ cleared (page_cells bs) s count
+  cleared_cells z p n h ez at many = wiped_cells bs z first (end - first) p n (omega arith) (omega arith) ez at many ∙ clipped_cells
+
+  pub cleared_none : end ≤ first → page_cells bs ≡ cleared (page_cells bs) s count
   cleared_none h =
-      let none : s - s ≡ 0 = omega arith in
-      sym (overwritten_none fresh (page_cells bs) s) ∙ rw none at (overwritten_clip fresh (page_cells bs) s count end s e (omega arith) h (λ k. k))
+      let none : end - first ≡ 0 = omega arith in
+      sym (overwritten_none fresh (page_cells bs) first) ∙ rw none at clipped_cells

@@ -9,7 +9,7 @@ use memory::cells::{Cell, Limits};
 use memory::elements::Element;
 use memory::tagged::LIMITS;
 
-// The cell whose tagged word stands in these bytes.
+// The cell whose tagged word stands in these bytes. Written in the method below, the clause `back` did not close.
 fn cell_in(bytes: [u8; 8]) -> Cell
     ensures value { result ≡ cell_from bytes }
     ensures within { Within tagged result }
@@ -18,7 +18,8 @@ fn cell_in(bytes: [u8; 8]) -> Cell
     u64::from_be_bytes(bytes).cell()
 }
 
-// A cell in the eight bytes of its tagged word, high byte first.
+// A cell in the eight bytes of its tagged word, high byte first. An array of bytes itself cannot be an element here: both it and
+// the trait are of other crates.
 #[derive(Clone, Copy)]
 pub struct CellBytes {
     pub bytes: [u8; 8],
@@ -42,8 +43,7 @@ impl Element for CellBytes {
     }
 
     fn holding(cell: Cell) -> Option<CellBytes> {
-        let word = u64::holding(cell)?;
-        Some(CellBytes {
+        u64::holding(cell).map(|word| CellBytes {
             bytes: word.to_be_bytes(),
         })
     }

@@ -1,19 +1,25 @@
 // The check of a page.
-ghost use Rattle.std.specs.Prelude.{◌≡◌};
+ghost use Rattle.std.specs.Prelude.{◌≡◌, ◌+◌, ◌*◌};
 ghost use Rattle.memory.specs.Refusals.{unless};
 ghost use Rattle.page.specs.Pages.{checked, size_causes, RoundTrips};
 
 use memory::refusals::Refusal;
 use memory::sizes::Size;
 
-// The size of a page of so many bytes, if it has so many cells.
+// The number of bytes of a page of this size.
+pub fn length_of(size: Size) -> usize
+    ensures { result ≡ 8 + 8 * size }
+{
+    8 + 8 * size.cells()
+}
+
+// The size of a page of `count` bytes and `size` cells, unless no ring has the size or it does not go with the bytes.
 pub(crate) fn check_size(count: usize, size: usize) -> Result<Size, Refusal>
     ensures { result ≡ unless (size_causes count size) size }
 {
-    match Size::new(size) {
-        Some(size) if count == 8 + 8 * size.cells() => Ok(size),
-        _ => Err(Refusal::PageSize),
-    }
+    Size::new(size)
+        .filter(|size| count == length_of(*size))
+        .ok_or(Refusal::PageSize)
 }
 
 // The number of cells of a page, or why these bytes are none; and the round trips between a page and its cells.
@@ -22,6 +28,8 @@ pub fn check_page(bytes: &[u8]) -> Result<usize, Refusal>
     ensures answer { result ≡ checked bytes.now }
     ensures trips { RoundTrips bytes.now }
 {
+    // A trace has the same fields first, with other refusals in another order, so each head is read by itself. Each byte has its
+    // name, since a pattern with a rest in its middle has no proof.
     let head = bytes.first_chunk::<8>().ok_or(Refusal::PageTooShort)?;
     let [
         version,

@@ -4,7 +4,7 @@ ghost use Rattle.memory.specs.Cells.{fresh};
 ghost use Rattle.memory.specs.Sizes.{is_ring_size};
 ghost use Rattle.page.specs.Pages.{header, page_of, page_cells, laid_out};
 
-use crate::check::check_size;
+use crate::check::{check_size, length_of};
 use memory::refusals::Refusal;
 use memory::sizes::Size;
 
@@ -13,9 +13,8 @@ fn head_of(size: Size) -> [u8; 8]
     ensures head { result ≡ header size }
     ensures sized { IsTrue (is_ring_size size) }
 {
-    let cells = size.cells();
-    let [length_0, length_1, length_2, length_3] = ((8 + 8 * cells) as u32).to_be_bytes();
-    let [size_0, size_1] = (cells as u16).to_be_bytes();
+    let [length_0, length_1, length_2, length_3] = (length_of(size) as u32).to_be_bytes();
+    let [size_0, size_1] = (size.cells() as u16).to_be_bytes();
     [1, length_0, length_1, length_2, length_3, size_0, size_1, 0]
 }
 

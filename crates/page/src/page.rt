@@ -8,6 +8,7 @@ use crate::bytes::CellBytes;
 use crate::check::check_page;
 use memory::cells::Cell;
 use memory::elements::Element;
+use memory::parts::clipped;
 use memory::rules::{Declined, Memory};
 
 // The bytes of each cell: none where the check refuses the page.
@@ -21,7 +22,8 @@ fn cells(bytes: &[u8]) -> &[[u8; 8]]
     }
 }
 
-// Stores an element in the place of a cell.
+// Stores an element in the place of a cell. It goes by an offset, since the library says nothing of what is left of a slice that
+// was lent in chunks.
 #[tactic(auto, using(crate::proofs::PageCells::room))]
 fn store(bytes: &mut [u8], at: usize, element: CellBytes)
     requires { at < length (page_cells bytes.old) }
@@ -38,13 +40,15 @@ fn wipe(bytes: &mut [u8], start: usize, count: usize)
     ensures cells { page_cells bytes.new ≡ cleared (page_cells bytes.old) start count }
     ensures others { other_bytes bytes.new ≡ other_bytes bytes.old }
 {
-    let end = start.saturating_add(count).min(cells(bytes).len());
-    if start < end {
-        bytes[8 + 8 * start..8 + 8 * end].fill(0);
+    let part = clipped(start, count, cells(bytes).len());
+    // a page that the check refuses has no cells, and may have no eight bytes
+    if part.start < part.end {
+        bytes[8 + 8 * part.start..8 + 8 * part.end].fill(0);
     }
 }
 
-// A page that the check refuses is a memory with no cells.
+// A page that the check refuses is a memory with no cells. It is no row of elements: its head is judged at each call, and it has
+// bytes that are part of no cell.
 #[derive(Drop)]
 pub struct Page<'a> {
     bytes: &'a mut [u8],
@@ -72,8 +76,8 @@ impl<'a> Memory for Page<'a> {
     }
 
     fn look(&self, at: usize) -> Option<Cell> {
-        let bytes = cells(self.bytes).get(at)?;
-        Some(CellBytes { bytes: *bytes }.cell())
+        let bytes = *cells(self.bytes).get(at)?;
+        Some(CellBytes { bytes }.cell())
     }
 
     fn exchange(&mut self, at: usize, expected: Cell, new: Cell) -> Result<(), Declined> {

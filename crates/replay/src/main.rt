@@ -5,13 +5,14 @@ ghost use Rattle.std.specs.Prelude.{◌≡◌, IfOk, Err, MatchResult};
 ghost use Rattle.replay.specs.declared.Stop.TheVariants.{Refused, OutOfMemory};
 ghost use Rattle.replay.specs.Stops.{RefusedWith};
 ghost use Rattle.trace.specs.Heads.{head_of};
-ghost use Rattle.trace.specs.Lines.{line_of_trace};
+ghost use Rattle.trace.specs.Lines.{text_of, line_of_trace, opening_line};
 
 use memory::cells::Cell;
 use memory::elements::Element;
 use memory::refusals::Refusal;
 use memory::rules::clear_all;
 use memory::sizes::Size;
+use page::check::length_of;
 use page::layout::lay_out;
 use page::page::Page;
 use rows::row::Row;
@@ -27,6 +28,7 @@ enum Stop {
     OutOfMemory(AllocError),
 }
 
+// Both conversions are written out, since the contracts below read which error each gives.
 impl From<Refusal> for Stop {
     ghost from_gives = { λ refusal stop. stop ≡ Refused refusal };
 
@@ -55,21 +57,21 @@ fn make_row<E: Element>(heap: Global, size: Size) -> Result<usize, AllocError>
 fn make_page(heap: Global, size: Size) -> Result<usize, Stop>
     ensures { MatchResult result (λ n. n ≡ size) (RefusedWith (λ _. ⊥)) }
 {
-    let cells = size.cells();
-    let mut bytes = vec![in heap; 0u8; 8 + 8 * cells]?;
+    let mut bytes = vec![in heap; 0u8; length_of(size)]?;
     let page = bytes.as_mut_slice();
-    lay_out(page, cells)?;
+    lay_out(page, size.cells())?;
     Ok(clear_all(&mut Page::over(page)))
 }
 
-// Makes a memory of this kind and size, cleared, and answers its number of cells. Only want of memory stops it.
-fn make_memory(heap: Global, kind: Kind, size: Size) -> Result<usize, Stop>
-    ensures { MatchResult result (λ n. n ≡ size) (RefusedWith (λ _. ⊥)) }
+// Makes the memory that a head asks for, cleared, and answers its number of cells. Only want of memory stops it. The kinds are
+// a closed set of numbers in a head, so a match says more than a table of functions.
+fn make_memory(heap: Global, head: &Head) -> Result<usize, Stop>
+    ensures { MatchResult result (λ n. n ≡ head.now.size) (RefusedWith (λ _. ⊥)) }
 {
-    match kind {
-        Kind::Records => Ok(make_row::<Cell>(heap, size)?),
-        Kind::Words => Ok(make_row::<u64>(heap, size)?),
-        Kind::Page => make_page(heap, size),
+    match head.kind {
+        Kind::Records => Ok(make_row::<Cell>(heap, head.size)?),
+        Kind::Words => Ok(make_row::<u64>(heap, head.size)?),
+        Kind::Page => make_page(heap, head.size),
     }
 }
 
@@ -77,14 +79,18 @@ fn make_memory(heap: Global, kind: Kind, size: Size) -> Result<usize, Stop>
 fn opening(heap: Global, trace: &[u8]) -> Result<Line, Stop>
     ensures { MatchResult result (λ line. line ≡ line_of_trace trace.now) (RefusedWith (λ e. head_of trace.now ≡ Err e)) }
 {
-    let Head { kind, size } = read_head(trace)?;
-    let size = make_memory(heap, kind, size)?;
-    Ok(Line::Ring { size, kind })
+    let head = read_head(trace)?;
+    let size = make_memory(heap, &head)?;
+    Ok(Line::Ring {
+        size,
+        kind: head.kind,
+    })
 }
 
 // The line that is printed for a trace.
 fn printed(heap: Global, trace: &[u8]) -> Result<Line, AllocError>
-    ensures { IfOk result (λ line. line ≡ line_of_trace trace.now) }
+    ensures line { IfOk result (λ line. line ≡ line_of_trace trace.now) }
+    ensures text { IfOk result (λ line. text_of line ≡ opening_line trace.now) }
 {
     match opening(heap, trace) {
         Ok(line) => Ok(line),

@@ -13,12 +13,16 @@ use memory::rules::Memory;
 // What the seats of a ring share besides its cells. It holds no cell: each call is lent the memory.
 #[derive(Drop)]
 pub struct Board {
-    // The number of cells; 0 on a board that no ring was made on, which no memory that is admitted can have.
+    // The number of cells. By rule a board that no ring was made on is as any other, with size 0, which no memory that is admitted
+    // can have.
     pub(crate) size: u16,
+    // Where a put and where a take begins to look.
     pub(crate) hints: Hints,
+    // Seat s at place s. The table is fixed, since nothing here allocates.
     pub(crate) seats: [Seat; 16],
 }
 
+// Each call is lent the memory beside the board, since a board may meet another memory of its size at any call.
 impl Board {
     // A board with both hints at 0 and all seats idle.
     pub(crate) fn with_size(size: u16) -> Board
@@ -31,7 +35,7 @@ impl Board {
         }
     }
 
-    // A board that no ring was made on.
+    // A board that no ring was made on. `default` would not say so.
     pub fn unfilled() -> Board
         ensures { result ≡ new_board 0 }
     {
@@ -74,7 +78,8 @@ impl Board {
         Ok(at)
     }
 
-    // The same of a seat that carries one.
+    // The same of a seat that carries one. It asks for the opposite of a begin and refuses with another cause, so it stays a
+    // function of its own.
     fn admit_step<M: Memory>(&self, memory: &M, seat: u8) -> Result<usize, Refusal>
         ensures { result ≡ unless (step_causes (ring_of (M.cells memory.now) self.now) seat []) seat }
     {
@@ -105,7 +110,7 @@ impl Board {
         Ok(())
     }
 
-    // Begins a take in an idle seat.
+    // Begins a take in an idle seat. A put asks for a value besides, so the two stay two calls.
     pub fn begin_take<M: Memory>(&mut self, memory: &M, seat: u8) -> Result<(), Refusal>
         ensures { dealt (M.cells memory.now) self.new result ≡ begin_take (ring_of (M.cells memory.now) self.old) seat }
     {
@@ -114,7 +119,8 @@ impl Board {
         Ok(())
     }
 
-    // Lends one seat to a step: one access to one shared thing. None: its call goes on.
+    // Lends one seat to a step: one access to one shared thing. None: its call goes on. That the place is in the table is asked
+    // here and in `run`, and nowhere else.
     fn advance<M: Memory>(&mut self, memory: &mut M, at: usize) -> Option<Answer>
         requires { at < 16 }
         ensures after { dealt (M.cells memory.new) self.new result ≡ advanced M.Element.LIMITS (ring_of (M.cells memory.old) self.old) at }
@@ -149,8 +155,7 @@ impl Board {
         None
     }
 
-    // Steps the call of one seat up to `count` times, at most 8,192; its answer ends the run. None: the call goes
-    // on.
+    // Steps the call of one seat up to `count` times, at most 8,192; an answer ends the run. None: the call goes on.
     pub fn run_alone<M: Memory>(
         &mut self,
         memory: &mut M,

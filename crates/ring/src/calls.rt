@@ -12,7 +12,7 @@ pub enum Task {
 }
 
 impl Task {
-    // How a call ends whose exchange of this cell is done.
+    // How a call ends whose exchange of this cell is done. There are two tasks, so a match says more than a table.
     pub(crate) fn outcome(self, expected: Cell) -> Outcome
         ensures { result ≡ outcome_of self expected }
     {
@@ -55,6 +55,7 @@ pub struct Call {
 }
 
 impl Call {
+    // A call that has just begun.
     pub(crate) fn begin(task: Task) -> Call
         ensures { result ≡ beginning task }
     {
@@ -72,7 +73,7 @@ impl Call {
         self
     }
 
-    // The call with one failed exchange more.
+    // The call with one failed exchange more. It counts in another field than `stepped`: a function over a field is no plainer.
     pub(crate) fn missed(mut self) -> Call
         ensures { result ≡ one_failure self }
     {

@@ -11,15 +11,20 @@ use memory::rules::Memory;
 // One dealing with a ring that is made.
 #[derive(Clone, Copy)]
 pub enum Dealing {
+    // A put of this value begins in a seat.
     BeginPut { seat: u8, value: u64 },
+    // A take begins in a seat.
     BeginTake { seat: u8 },
+    // One step of the call that a seat carries.
     Step { seat: u8 },
+    // So many steps of the call that a seat carries, or fewer if it is answered.
     RunAlone { seat: u8, count: u16 },
 }
 
 // What an accepted dealing returns.
 #[derive(Clone, Copy, PartialEq, Eq, Debug)]
 pub enum Reply {
+    // A call has begun.
     Begun,
     // The answer of the call; none where it goes on. An Option of an Option would not say which of the two is none.
     Stepped(Option<Answer>),
@@ -45,7 +50,7 @@ impl Entry {
 }
 
 impl Board {
-    // Carries out one dealing.
+    // Carries out one dealing. Dealings are data and a closed set, so a match says more than a table of functions.
     pub fn deal<M: Memory>(&mut self, memory: &mut M, dealing: Dealing) -> Result<Reply, Refusal>
         ensures after { dealt (M.cells memory.new) self.new result ≡ deal M.Element.LIMITS (ring_of (M.cells memory.old) self.old) dealing }
         ensures apart { M.frame memory.new ≡ M.frame memory.old }

@@ -13,7 +13,7 @@ pub(crate) struct Circle {
 }
 
 impl Circle {
-    // The index before this one. That it would be 0 in a ring of no cells is a formality: no dealings reach one.
+    // The index before this one. In a ring of no cells 0 is before 0, a formality: no dealings reach one.
     #[tactic(auto, using(crate::proofs::Indices::previous_remainder))]
     pub(crate) fn before(self, index: u16) -> u16
         ensures value { result ≡ previous self.size index }
@@ -30,6 +30,7 @@ impl Circle {
         if index < self.last() { index + 1 } else { 0 }
     }
 
+    // The last index; 0 in a ring of no cells.
     fn last(self) -> u16
         ensures { result ≡ self.size - 1 }
     {
@@ -50,8 +51,8 @@ pub(crate) enum Verdict {
     Onward,
 }
 
-// What a call has seen at a look: the cell at an index and, before it, the cell at the previous index. The memory's limits
-// hold of the later one.
+// What a call has seen at a look: the cell at an index and, before it, the cell at the previous index. The later one has a round
+// that the memory allows.
 #[derive(Clone, Copy)]
 pub(crate) struct Sight {
     pub(crate) limits: Limits,
@@ -63,7 +64,7 @@ pub(crate) struct Sight {
 }
 
 impl Sight {
-    // Where the call goes.
+    // Where the call goes. A put and a take go by two rules, and not by one with a value for each.
     pub(crate) fn judge(self, task: Task) -> Verdict
         ensures { result ≡ verdict_of self.limits self.circle.size task self.index self.previous self.cell }
     {
@@ -73,6 +74,7 @@ impl Sight {
         }
     }
 
+    // Where a put of this value goes: the earliest line that fits.
     fn judge_put(self, value: u64) -> Verdict
         ensures { result ≡ put_verdict self.limits self.circle.size value self.index self.previous self.cell }
     {
@@ -92,6 +94,7 @@ impl Sight {
         }
     }
 
+    // Where a take goes.
     fn judge_take(self) -> Verdict
         ensures { result ≡ take_verdict self.limits self.circle.size self.index self.previous self.cell }
     {

@@ -20,6 +20,7 @@ pub struct Hints {
 }
 
 impl Hints {
+    // The hint of a put or of a take: two, so a match says more than a table.
     fn of(&self, task: Task) -> u16
         ensures { result ≡ hint_of self.now task }
     {
@@ -29,6 +30,7 @@ impl Hints {
         }
     }
 
+    // Moves the hint of a put or of a take to this index: two, so a match says more than a table.
     fn write(&mut self, task: Task, index: u16)
         ensures { self.new ≡ hinted self.old task index }
     {
@@ -40,7 +42,8 @@ impl Hints {
 }
 
 // The cell at an index. That a look outside the memory, which finds no cell, reads as a fresh one is a formality: no dealings
-// with a ring lead outside.
+// with a ring lead outside. By rule a step takes the look's Option apart, so that both cases stand
+// to be read.
 fn read<M: Memory>(memory: &M, index: u16) -> Cell
     ensures value { result ≡ cell_at (M.cells memory.now) index }
     ensures within { Within M.Element.LIMITS result }
@@ -97,7 +100,8 @@ impl Seat {
         matches!(self, Seat::Idle)
     }
 
-    // One step of the call that the seat carries: one access to a cell or to a hint. None: the call goes on.
+    // One step of the call that the seat carries: one access to a cell or to a hint. None: the call goes on. The cases are few
+    // and closed, and each holds what its step needs: a table of functions would have to take that apart again.
     pub(crate) fn step<M: Memory>(
         &mut self,
         memory: &mut M,

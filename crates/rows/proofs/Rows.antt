@@ -1,6 +1,6 @@
 -- A list of elements, seen as the cells that they hold.
 use Rattle.std.proofs.Common.{◌≡◌, ℕ, List, map, Ok, sym, ap, ◌∙◌, slice_set}
-use Rattle.std.proofs.lemmas.List.{map-set}
+use Rattle.std.proofs.lemmas.List.{map-set, map-id}
 use Rattle.memory.specs.declared.cells.Cell.{Cell}
 use Rattle.memory.specs.declared.cells.Limits.{Limits}
 use Rattle.memory.specs.Cells.{fresh}
@@ -19,3 +19,7 @@ row_exchanged f limits es i expected new e x h k =
 pub row_cleared : {E : Type 0} (f : E → Cell) (clear : E) (es : List E) (start count : ℕ) → f clear ≡ fresh
     → map f (overwritten clear es start count) ≡ cleared (map f es) start count
 row_cleared f clear es start count h = overwritten-map f clear es start count ∙ ap (λ (c : Cell). overwritten c (map f es) start count) h
+
+-- a row of records holds the records
+pub records_are_cells : (records : List Cell) → map (λ (c : Cell). c) records ≡ records
+records_are_cells records = map-id records

@@ -41,8 +41,7 @@ impl<'a, E: Element> Memory for Row<'a, E> {
     }
 
     fn look(&self, at: usize) -> Option<Cell> {
-        let element = self.elements.get(at)?;
-        Some(element.cell())
+        self.elements.get(at).map(|element| element.cell())
     }
 
     #[tactic(auto, using(crate::proofs::Rows::row_exchanged))]

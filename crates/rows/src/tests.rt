@@ -51,6 +51,23 @@ fn clear_row(words: &mut [u64], start: usize, count: usize)
     memory.clear(start, count);
 }
 
+// The same of records, which are the cells themselves.
+#[tactic(auto, using(crate::proofs::Rows::records_are_cells))]
+fn clear_records(records: &mut [Cell], start: usize, count: usize)
+    ensures { records.new ≡ cleared records.old start count }
+{
+    let mut memory = Records::over(records);
+    memory.clear(start, count);
+}
+
+#[test]
+fn a_lender_of_records_knows_what_was_cleared(rt: HostRuntime) {
+    let old = Cell { value: 7, round: 7 };
+    let mut row = [old; 3];
+    clear_records(&mut row, 1, 1);
+    assert_eq!(rt; &row, &[old, Cell::FRESH, old]);
+}
+
 #[test]
 fn a_lender_knows_what_was_cleared(rt: HostRuntime) {
     let mut row = [7u64; 4];

@@ -33,3 +33,7 @@ line_by (Err refusal) = line_of_refusal refusal
 -- the line of a trace of these bytes
 abbrev pub line_of_trace : List ℕ → Line
 line_of_trace bytes = line_by (head_of bytes)
+
+-- its text
+abbrev pub opening_line : List ℕ → List ℕ
+opening_line bytes = text_of (line_of_trace bytes)

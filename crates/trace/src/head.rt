@@ -57,7 +57,7 @@ impl fmt::Display for Kind {
 #[derive(Clone, Copy, PartialEq, Eq, Debug)]
 pub struct Head {
     pub kind: Kind,
-    // The number of cells, at most 256.
+    // The number of cells; at most 256 in a head that was read.
     pub size: Size,
 }
 
@@ -67,25 +67,38 @@ impl Head {
         ensures { result ≡ head_with kind size }
     {
         let kind = Kind::try_from(kind)?;
-        match Size::new(size as usize) {
-            Some(size) if size.cells() <= 256 => Ok(Head { kind, size }),
-            _ => Err(Refusal::TraceHead),
-        }
+        let size = Size::new(size as usize)
+            .filter(|size| size.cells() <= 256)
+            .ok_or(Refusal::TraceHead)?;
+        Ok(Head { kind, size })
     }
 }
 
-// The number of a kind and the size that the head of a trace names, where the version and the length in it are right.
+// The number of a kind and the size, as they stand in the head of a trace whose version and length are right. A type for the
+// two would be taken apart at once.
 fn memory_fields(bytes: &[u8]) -> Result<(u8, u16), Refusal>
     ensures { result ≡ unless (length_causes bytes.now) (field 5 1 bytes.now, field 6 2 bytes.now) }
 {
-    let [version, first, second, third, fourth, kind, high, low, ..] = *bytes else {
+    // each byte by its name: a pattern with a rest in its middle has no proof
+    let [
+        version,
+        length_0,
+        length_1,
+        length_2,
+        length_3,
+        kind,
+        size_0,
+        size_1,
+        ..
+    ] = *bytes
+    else {
         return Err(Refusal::TraceHead);
     };
-    let length = u32::from_be_bytes([first, second, third, fourth]) as usize;
+    let length = u32::from_be_bytes([length_0, length_1, length_2, length_3]) as usize;
     if bytes.len() > MAX_LENGTH || version != 1 || length != bytes.len() {
         return Err(Refusal::TraceHead);
     }
-    Ok((kind, u16::from_be_bytes([high, low])))
+    Ok((kind, u16::from_be_bytes([size_0, size_1])))
 }
 
 // The head of a trace, from the bytes of the whole trace.

@@ -3,12 +3,13 @@ use crate::head::Kind;
 use memory::refusals::Refusal;
 use std::fmt;
 
-// A line that is printed of a trace.
+// A line that is printed of a trace. It is no Result, since it is the answer either way, and it is what is printed.
 #[derive(Clone, Copy, PartialEq, Eq, Debug)]
 pub enum Line {
     // The first line: the number of cells and the make of the memory.
     Ring { size: usize, kind: Kind },
-    // The line of a trace that is refused: the number and the place of the refusal.
+    // The line of a trace that is refused: the number and the place of the refusal. They are numbers, since
+    // with a `Refusal` in their place fewer lines could be printed.
     Fault { number: u8, place: usize },
 }
 

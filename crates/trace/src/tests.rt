@@ -1,26 +1,19 @@
 // Examples of heads: good ones, and one for each field that is wrong.
-use crate::head::{Head, Kind, read_head};
+use crate::head::{Kind, read_head};
 use crate::lines::Line;
 use memory::refusals::Refusal;
-use memory::sizes::Size;
 use std::test::Fail;
 
-// A head with a size that a ring can have.
-fn head(kind: Kind, size: usize) -> Option<Head> {
-    let size = Size::new(size)?;
-    Some(Head { kind, size })
+// The kind of memory and the number of cells in a head, or why it has none.
+fn named(bytes: &[u8]) -> Result<(Kind, usize), Refusal> {
+    let head = read_head(bytes)?;
+    Ok((head.kind, head.size.cells()))
 }
 
 #[test]
 fn a_head_names_the_memory_and_its_size(rt: HostRuntime) {
-    assert_eq!(rt;
-        read_head(&[1, 0, 0, 0, 8, 2, 0, 2]).ok(),
-        head(Kind::Words, 2)
-    );
-    assert_eq!(rt;
-        read_head(&[1, 0, 0, 0, 9, 3, 1, 0, 80]).ok(),
-        head(Kind::Page, 256)
-    );
+    assert_eq!(rt; named(&[1, 0, 0, 0, 8, 2, 0, 2]), Ok((Kind::Words, 2)));
+    assert_eq!(rt; named(&[1, 0, 0, 0, 9, 3, 1, 0, 80]), Ok((Kind::Page, 256)));
 }
 
 #[test]
@@ -53,7 +46,7 @@ fn a_trace_has_8_to_65536_bytes(rt: HostRuntime) -> Result<(), Fail> {
     bytes[0..8].copy_from_slice(&[1, 0, 1, 0, 1, 2, 0, 2]);
     assert_eq!(rt; read_head(bytes), Err(Refusal::TraceHead));
     bytes[0..8].copy_from_slice(&[1, 0, 1, 0, 0, 2, 0, 2]);
-    assert_eq!(rt; read_head(&bytes[0..65_536]).ok(), head(Kind::Words, 2));
+    assert_eq!(rt; named(&bytes[0..65_536]), Ok((Kind::Words, 2)));
     Ok(())
 }
 

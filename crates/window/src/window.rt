@@ -4,6 +4,7 @@ ghost use Rattle.memory.specs.declared.cells.Cell.{Cell};
 ghost use Rattle.window.specs.Windows.{windowed, framed, aimed, Reaches, SamePart};
 
 use memory::cells::Cell;
+use memory::parts::clipped;
 use memory::refusals::Refusal;
 use memory::rules::{Declined, Memory};
 
@@ -13,9 +14,10 @@ pub struct Window<'a, M: Memory> {
     below: &'a mut M,
     start: usize,
     count: usize,
-    // It lies within the memory below: that memory never changes its size.
+    // It lies within the memory below, which never changes its size.
     ghost inside: { start + count ≤ length (M.cells below.now) },
-    ghost counted: { start + count < 2 ^ 64 },
+    // So its end is an index.
+    ghost end_fits: { start + count < 2 ^ 64 },
 }
 
 impl<'a, M: Memory> Window<'a, M> {
@@ -34,7 +36,7 @@ impl<'a, M: Memory> Window<'a, M> {
         }
     }
 
-    // Aims the window at the cells from `start` on, `count` of them.
+    // Aims the window at the cells from `start` on, `count` of them: any two numbers, as in `clear`.
     pub fn aim(&mut self, start: usize, count: usize) -> Result<(), Refusal>
         ensures answer { result ≡ aimed start count (M.cells self.old.below.now) }
         ensures held { self.new.below.now ≡ self.old.below.now }
@@ -51,7 +53,7 @@ impl<'a, M: Memory> Window<'a, M> {
         Ok(())
     }
 
-    // The index below of an index of the window; none outside.
+    // The index below of an index of the window; none outside. Under `then` the sum would stand in a closure of its own.
     fn reach(&self, at: usize) -> Option<usize>
         ensures { Reaches self.now.start self.now.count (M.cells self.now.below.now) at result }
     {
@@ -67,8 +69,8 @@ impl<'a, M: Memory> Window<'a, M> {
     fn cover(&self, start: usize, count: usize) -> (usize, usize)
         ensures { SamePart self.now.start self.now.count (M.cells self.now.below.now) start count result.0 result.1 }
     {
-        let skipped = start.min(self.count);
-        (self.start + skipped, count.min(self.count - skipped))
+        let part = clipped(start, count, self.count);
+        (self.start + part.start, part.end - part.start)
     }
 }
 

@@ -9,4 +9,6 @@ pub loop-element-preserved : goal.loop-element-preserved
 loop-element-preserved g c = rw c.loop-element.invariant (overwritten_step c.args.with _ c.loop-element.element-index)
 
 pub returns : goal.returns
-returns g c = rw c.loop-element.invariant (overwritten_part _ c.args.row.now c.args.start c.args.count c.min-start.result c.min-end.result _ (omega arith) (omega arith) (omega arith) c.loop-element-test.false)
+returns g c =
+    let part = c.clipped-part.ensures in
+    rw c.loop-element.invariant (overwritten_part _ c.args.row.now c.args.start c.args.count c.clipped-part.result.start c.clipped-part.result.end _ part.start part.end (omega (arith, part.start, part.end)) c.loop-element-test.false)
