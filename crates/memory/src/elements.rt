@@ -36,8 +36,10 @@ pub trait Element: Copy {
         ensures value { result ≡ (if fits LIMITS cell then Some (element_of cell) else None) }
         ensures back { IfSome result (λ element. cell_of element ≡ cell) };
 
+    // The limits are ones that a memory may have.
     ghost proper: { Proper LIMITS };
 
+    // The cleared element holds a fresh cell.
     ghost cleared: { cell_of CLEAR ≡ fresh };
 }
 

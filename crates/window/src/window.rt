@@ -16,7 +16,7 @@ pub struct Window<'a, M: Memory> {
     count: usize,
     // It lies within the memory below, which never changes its size.
     ghost inside: { start + count ≤ length (M.cells below.now) },
-    // So its end is an index.
+    // Its end fits an index, as the size of that memory does.
     ghost end_fits: { start + count < 2 ^ 64 },
 }
 
