@@ -28,8 +28,7 @@ pub trait Element: Copy {
     // The cell that this element holds.
     fn cell(self) -> Cell
         ensures value { result ≡ cell_of self }
-        ensures within { Within LIMITS result }
-        ensures back { element_of result ≡ self };
+        ensures within { Within LIMITS result };
 
     // The element that holds a cell; none where the cell is beyond the limits.
     fn holding(cell: Cell) -> Option<Self>

@@ -1,6 +1,7 @@
 // A cell in one tagged word: the round stands above the 48 bits of the value.
-ghost use Rattle.std.specs.Prelude.{refl};
+ghost use Rattle.std.specs.Prelude.{◌≡◌, refl};
 ghost use Rattle.std.proofs.Common.{lit≤};
+ghost use Rattle.memory.specs.Cells.{Within};
 ghost use Rattle.memory.specs.Packing.{packed, unpacked, tagged};
 
 use crate::cells::{Cell, Limits};
@@ -29,7 +30,12 @@ impl Element for u64 {
 
     ghost element_of = { packed 48 };
 
-    fn cell(self) -> Cell {
+    // Beside what every element promises, the word can be had back from the cell.
+    fn cell(self) -> Cell
+        ensures value { result ≡ unpacked 48 self }
+        ensures within { Within tagged result }
+        ensures back { packed 48 result ≡ self }
+    {
         Cell {
             value: self % ROUND_UNIT,
             round: (self / ROUND_UNIT) as u32,

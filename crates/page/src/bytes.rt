@@ -1,22 +1,12 @@
 // A cell in eight bytes.
-ghost use Rattle.std.specs.Prelude.{◌≡◌, replicate, refl};
+ghost use Rattle.std.specs.Prelude.{replicate, refl};
 ghost use Rattle.std.proofs.Common.{lit≤};
-ghost use Rattle.memory.specs.Cells.{Within};
 ghost use Rattle.memory.specs.Packing.{tagged};
 ghost use Rattle.page.specs.Bytes.{cell_from, cell_bytes};
 
 use memory::cells::{Cell, Limits};
 use memory::elements::Element;
 use memory::tagged::LIMITS;
-
-// The cell whose tagged word stands in these bytes. Written in the method below, the clause `back` did not close.
-fn cell_in(bytes: [u8; 8]) -> Cell
-    ensures value { result ≡ cell_from bytes }
-    ensures within { Within tagged result }
-    ensures back { cell_bytes result ≡ bytes }
-{
-    u64::from_be_bytes(bytes).cell()
-}
 
 // A cell in the eight bytes of its tagged word, high byte first. An array of bytes itself cannot be an element here: both it and
 // the trait are of other crates.
@@ -39,7 +29,7 @@ impl Element for CellBytes {
     ghost element_of = { λ c. record { bytes = cell_bytes c } };
 
     fn cell(self) -> Cell {
-        cell_in(self.bytes)
+        u64::from_be_bytes(self.bytes).cell()
     }
 
     fn holding(cell: Cell) -> Option<CellBytes> {

@@ -22,8 +22,8 @@ fn cells(bytes: &[u8]) -> &[[u8; 8]]
     }
 }
 
-// Stores an element in the place of a cell. It goes by an offset, since the library says nothing of what is left of a slice that
-// was lent in chunks.
+// Stores an element in the place of a cell. It goes by an offset: to lend the bytes in chunks was tried, and the proof does not
+// close, since the library says nothing of what is then left of the slice.
 #[tactic(auto, using(crate::proofs::PageCells::room))]
 fn store(bytes: &mut [u8], at: usize, element: CellBytes)
     requires { at < length (page_cells bytes.old) }

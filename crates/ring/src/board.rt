@@ -139,8 +139,8 @@ impl Board {
         Ok(self.advance(memory, at))
     }
 
-    // Steps one seat up to `count` times; an answer ends the run. None: the call goes on. No index is counted, and a chain
-    // over a closure that steps the board would tell the prover nothing of the steps.
+    // Steps one seat up to `count` times; an answer ends the run. None: the call goes on. No index is counted; `find_map`
+    // over a closure that steps the board was tried, and its proof does not close.
     #[tactic(auto, using(crate::proofs::Running::run_steps))]
     fn run<M: Memory>(&mut self, memory: &mut M, at: usize, count: u16) -> Option<Answer>
         requires { at < 16 }

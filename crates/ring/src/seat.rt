@@ -42,8 +42,7 @@ impl Hints {
 }
 
 // The cell at an index. That a look outside the memory, which finds no cell, reads as a fresh one is a formality: no dealings
-// with a ring lead outside. By rule a step takes the look's Option apart, so that both cases stand
-// to be read.
+// with a ring lead outside. By rule a step takes the look's Option apart, so that both cases can be read.
 fn read<M: Memory>(memory: &M, index: u16) -> Cell
     ensures value { result ≡ cell_at (M.cells memory.now) index }
     ensures within { Within M.Element.LIMITS result }

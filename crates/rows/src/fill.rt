@@ -5,8 +5,7 @@ ghost use Rattle.memory.specs.Lists.{overwritten};
 use memory::parts::clipped;
 
 // Overwrites the elements from `start` on, `count` of them; places past the end are skipped. The slice's own
-// `fill` asks that no clone can fail and says what it leaves only where a clone is the same value: both were tried, and
-// `Copy` says neither of every type.
+// `fill` was tried: it asks that no clone can fail, which `Copy` does not tell the check of every type.
 pub(crate) fn overwrite<T: Copy>(row: &mut [T], start: usize, count: usize, with: T)
     ensures { row.new ≡ overwritten with row.old start count }
 {
