@@ -60,8 +60,8 @@ accepted_by : (bs : List ℕ) (r : Result ℕ Refusal) → checked bs ≡ r → 
 accepted_by bs (Ok n) e h = record { count = n; is = e; cells = accepted_count bs n e; long = accepted_length bs n e }
 accepted_by bs (Err x) e h = absurd (let z : length (page_cells bs) ≡ 0 = ap (λ (r : Result ℕ Refusal). length (cells_by r bs)) e in omega arith)
 
-accepted : (bs : List ℕ) → 0 < length (page_cells bs) → Accepted bs
-accepted bs h = accepted_by bs (checked bs) refl h
+accepted_with_a_cell : (bs : List ℕ) → 0 < length (page_cells bs) → Accepted bs
+accepted_with_a_cell bs h = accepted_by bs (checked bs) refl h
 
 -- there is room for the cells
 room_by : (bs : List ℕ) (r : Result ℕ Refusal) → checked bs ≡ r → 8 * length (page_cells bs) ≤ length bs - 8
@@ -97,7 +97,7 @@ module _ (bs : List ℕ) (s k p n : ℕ) (some : 0 < k) (h : s + k ≤ length (p
 
     put_cells : page_cells (put_mid p n bs ys) ≡ before bs s p ++ (cells_in k ys ++ behind bs (length (page_cells bs) - (s + k)) p n)
     put_cells =
-        let a = accepted bs (omega arith) in
+        let a = accepted_with_a_cell bs (omega arith) in
         let c = a.cells in
         let r = length (page_cells bs) - (s + k) in
         let rest = ys ++ drop n (drop p bs) in
@@ -111,7 +111,7 @@ module _ (bs : List ℕ) (s k p n : ℕ) (some : 0 < k) (h : s + k ≤ length (p
     -- no byte outside the cells changes
     pub put_others : other_bytes (put_mid p n bs ys) ≡ other_bytes bs
     put_others =
-        let a = accepted bs (omega arith) in
+        let a = accepted_with_a_cell bs (omega arith) in
         ap (λ (r : Result ℕ Refusal). others_by r (put_mid p n bs ys)) (same_check ∙ a.is) ∙ same_head ∙ ap (λ (r : Result ℕ Refusal). others_by r bs) (sym a.is)
 
   part_cells : page_cells bs ≡ before bs s p ++ (cells_in k (mid_of p n bs) ++ behind bs (length (page_cells bs) - (s + k)) p n)

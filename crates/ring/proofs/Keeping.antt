@@ -1,5 +1,5 @@
 -- What every accepted begin and every accepted step keep is kept by all dealings.
-use Rattle.std.proofs.Common.{◌≡◌, ℕ, zero, suc, ◌<◌, Bool, true, false, ◌||◌, eqb, ltb, List, [], ◌∷◌, Some, None, Option, Err, refl, arith}
+use Rattle.std.proofs.Common.{◌≡◌, ℕ, zero, suc, ◌<◌, Bool, true, false, ◌||◌, eqb, ltb, List, [], ◌∷◌, Some, None, Option, Err, sym, refl, ap, arith}
 use Rattle.std.proofs.lemmas.Bool.{cond_both, ltb-false, eqb-false, or_parts, not-false}
 use Rattle.memory.specs.declared.cells.Limits.{Limits}
 use Rattle.memory.specs.declared.refusals.Refusal.{Refusal}
@@ -9,9 +9,9 @@ use Rattle.ring.specs.declared.calls.Task.{Task}
 use Rattle.ring.specs.declared.calls.Task.TheVariants.{Put, Take}
 use Rattle.ring.specs.declared.dealings.Dealing.{Dealing}
 use Rattle.ring.specs.declared.dealings.Dealing.TheVariants.{BeginPut, BeginTake, Step, RunAlone}
-use Rattle.ring.specs.Rings.{Ring, seat_at, is_idle, begun, advanced, unless_answered, run, settled, put_causes, begin_causes, step_causes, run_causes}
+use Rattle.ring.specs.Rings.{Ring, Dealt, seat_at, is_idle, begun, advanced, unless_answered, run, settled, put_causes, begin_causes, step_causes, run_causes}
 use Rattle.ring.specs.Dealings.{deal, ring_after}
-use Rattle.ring.specs.Histories.{History, begin_moment, step_moment, run_moments, if_accepted, observed, observed_from}
+use Rattle.ring.specs.Histories.{History, begin_moment, step_moment, run_moments, returned, if_accepted, observed, observed_from}
 use Rattle.ring.proofs.Invariant.{Fitting}
 
 -- no cause applies
@@ -38,6 +38,9 @@ module _ (limits : Limits) (P : History → Ring → Type 0)
       let p = or_parts (eqb v 0) (ltb limits.value v) e in
       (omega (arith, eqb-false v 0 p.0), ltb-false limits.value v p.1)
 
+  some_steps : (n : ℕ) → (eqb n 0 || ltb 8192 n) ≡ false → 0 < n
+  some_steps n e = omega (arith, eqb-false n 0 (or_parts (eqb n 0) (ltb 8192 n) e).0)
+
   run_keeps : (n : ℕ) (r : Ring) (s : ℕ) (H : History) → s < 16 → is_idle (seat_at r s) ≡ false → P H r → P (run_moments limits n r s H) (run limits n r s).ring
   unfolding run
   run_keeps zero r s H sits busy kept = kept
@@ -53,6 +56,24 @@ module _ (limits : Limits) (P : History → Ring → Type 0)
       go now more (Some a) e = now
       go now more None e = more e
 
+  -- what a run returns is what its newest moment was anyway
+  abbrev Returned : Dealt (Option Answer) → History → Type 0
+  Returned m moments = returned m.ring m.answer moments ≡ moments
+
+  run_returned : (n : ℕ) (r : Ring) (s : ℕ) (H : History) → 0 < n → Returned (run limits n r s) (run_moments limits n r s H)
+  unfolding run
+  run_returned zero r s H z = absurd (omega arith)
+  run_returned (suc n) r s H z =
+      go n (run_returned n (advanced limits r s).ring s X) (advanced limits r s).answer refl
+    where
+      X : History
+      X = step_moment s r (advanced limits r s).ring (advanced limits r s).answer ∷ H
+
+      go : (k : ℕ) → (0 < k → Returned (run limits k (advanced limits r s).ring s) (run_moments limits k (advanced limits r s).ring s X)) → (p : Option Answer) → (advanced limits r s).answer ≡ p → Returned (unless_answered p (advanced limits r s) (run limits k (advanced limits r s).ring s)) (unless_answered p X (run_moments limits k (advanced limits r s).ring s X))
+      go k more (Some a) e = refl
+      go zero more None e = ap (λ (p : Option Answer). step_moment s r (advanced limits r s).ring p ∷ H) (sym e)
+      go (suc k) more None e = more (omega arith)
+
   pub deal_keeps : (d : Dealing) (H : History) (r : Ring) → P H r → P (observed limits r d H) (deal limits r d).ring
   deal_keeps (BeginPut s v) H r kept =
       settled_keeps (put_causes limits r s v) s r (begun r s (Put v)) tt (λ after _. begin_moment s (Put v) r after ∷ H) H kept
@@ -64,8 +85,8 @@ module _ (limits : Limits) (P : History → Ring → Type 0)
       settled_keeps (step_causes r s []) s r (advanced limits r s).ring (advanced limits r s).answer (λ after p. step_moment s r after p ∷ H) H kept
       (λ w. on_step H r kept s (seat_within s w.0) w.1.1.0)
   deal_keeps (RunAlone s n) H r kept =
-      settled_keeps (run_causes r s n) s r (run limits n r s).ring (run limits n r s).answer (λ _ _. run_moments limits n r s H) H kept
-      (λ w. run_keeps n r s H (seat_within s w.0) w.1.1.0 kept)
+      settled_keeps (run_causes r s n) s r (run limits n r s).ring (run limits n r s).answer (λ after p. returned after p (run_moments limits n r s H)) H kept
+      (λ w. rw (run_returned n r s H (some_steps n w.1.1.1.0)) (run_keeps n r s H (seat_within s w.0) w.1.1.0 kept))
 
   pub dealings_keep : (ds : List Dealing) (H : History) (r : Ring) → P H r → P (observed_from limits r ds H) (ring_after limits r ds)
   unfolding ring_after

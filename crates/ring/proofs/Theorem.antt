@@ -1,7 +1,8 @@
 -- Every run from a new ring is lawful.
-use Rattle.std.proofs.Common.{◌≡◌, ℕ, ◌<◌, ◌≤◌, true, false, List, [], ◌∷◌, length, Some, None, Option, sym, refl, subst, subst₂, inl, inr, arith}
+use Rattle.std.proofs.Common.{◌≡◌, ℕ, ◌<◌, ◌≤◌, true, false, not, List, [], ◌∷◌, length, replicate, sym, refl, ap, ◌∙◌, subst, subst₂, inl, inr, arith}
 use lib.ListN.{length-replicate, get_or-replicate}
-use Rattle.std.proofs.lemmas.Bool.{cases_eq, true≢false, eq-eqb, ne_eqb}
+use Rattle.std.proofs.lemmas.Bool.{cases_lt, cases_eq, true≢false, not-true, eq-eqb, ne_eqb}
+use Rattle.std.proofs.lemmas.List.{get_or_past}
 use Rattle.memory.specs.declared.cells.Cell.{Cell}
 use Rattle.memory.specs.declared.cells.Limits.{Limits}
 use Rattle.memory.specs.Cells.{fresh}
@@ -10,7 +11,6 @@ use Rattle.memory.proofs.Powers.{size_bounds, decides_ring_size}
 use Rattle.ring.specs.declared.calls.Counts.{Counts}
 use Rattle.ring.specs.declared.calls.Outcome.{Outcome}
 use Rattle.ring.specs.declared.calls.Outcome.TheVariants.{Placed, Empty, Full, Taken, Worn}
-use Rattle.ring.specs.declared.calls.Answer.{Answer}
 use Rattle.ring.specs.declared.calls.Task.{Task}
 use Rattle.ring.specs.declared.calls.Task.TheVariants.{Put, Take}
 use Rattle.ring.specs.declared.dealings.Dealing.{Dealing}
@@ -20,8 +20,8 @@ use Rattle.ring.specs.Looks.{beginning}
 use Rattle.ring.specs.Seats.{Stepped, step_seat}
 use Rattle.ring.specs.Rings.{Ring, seat_at, is_idle, new_board, new_ring, begun, advanced}
 use Rattle.ring.specs.Dealings.{ring_after}
-use Rattle.ring.specs.Histories.{History, steps, begin_moment, step_moment, observed_from}
-use Rattle.ring.specs.Law.{Change, Account, changes, account_of, numbers_put, numbers_taken, is_open, stays_open, Once, ExchangesAs, OpenCall, EveryAnswer, Lawful, RunsLawfully}
+use Rattle.ring.specs.Histories.{History, begin_moment, step_moment, observed_from}
+use Rattle.ring.specs.Law.{Change, Account, changes, account_of, numbers_put, numbers_taken, is_open, Once, ExchangesAs, OpenCall, EveryTurn, EveryAnswer, Lawful, RunsLawfully}
 use Rattle.ring.proofs.Differences.{differences_none}
 use Rattle.ring.proofs.Shape.{Shape}
 use Rattle.ring.proofs.Invariant.{Fitting, AtStart, SeatSound, RingSound}
@@ -29,7 +29,7 @@ use Rattle.ring.proofs.Attempts.{price_open, few_looks}
 use Rattle.ring.proofs.Pasts.{new_account, other_quiet, own_begin, put_quiet, taken_quiet}
 use Rattle.ring.proofs.Moves.{seat_here, seat_else, quiet}
 use Rattle.ring.proofs.Stepping.{Holds, step_holds}
-use Rattle.ring.proofs.Busy.{busy_on}
+use Rattle.ring.proofs.Busy.{busy_while_open, busy_on}
 use Rattle.ring.proofs.Keeping.{dealings_keep}
 use Rattle.ring.proofs.Bounds.{new_inside, all_inside}
 
@@ -68,34 +68,39 @@ begin_holds S limits H r inv s task sits fits =
     (λ i n. other_quiet limits i x H (ne_eqb s i (λ m. n (sym m))) still) in
     subst₂ (λ (p t : List ℕ). RingSound S limits p t (λ i. account_of limits i (x ∷ H)) (begun r s task)) (sym (put_quiet x H still)) (sym (taken_quiet x H still)) i
 
--- A CALL THAT IS OPEN in the history stands in its seat
+-- A CALL IS OPEN in the history exactly where a seat carries one
 abbrev Tied : History → Ring → Type 0
-Tied H r = (i : ℕ) → is_open i H ≡ true → (i < 16) × (is_idle (seat_at r i) ≡ false)
+Tied H r = (i : ℕ) → is_open i H ≡ not (is_idle (seat_at r i))
 
-tied_begin : (H : History) (r : Ring) → Tied H r → (s : ℕ) (task : Task) → s < 16 → length r.board.seats ≡ 16 → Tied (begin_moment s task r (begun r s task) ∷ H) (begun r s task)
-tied_begin H r tied s task sits sixteen i open' =
-    let t : Seat = Start (beginning task) in
-    elim (cases_eq s i) [
-      | inl e ↦ subst (λ (k : ℕ). (k < 16) × (is_idle (seat_at (begun r s task) k) ≡ false)) e
-          (sits, rw (seat_here r s r.cells r.board.hints t (omega arith)) refl)
-      | inr n ↦
-          let before = tied i (rw (ne_eqb s i n) at open') in
-          (before.0, rw (seat_else r s r.cells r.board.hints t i (λ z. n (sym z))) before.1)
+tied_new : (S i : ℕ) → is_idle (seat_at (new_ring S) i) ≡ true
+tied_new S i =
+    elim (cases_lt i 16) [
+      | inl l ↦ rw (get_or-replicate 16 i Idle Idle l) refl
+      | inr m ↦ rw (get_or_past (replicate 16 Idle) i Idle m) refl
     ]
 
-on_answer : (p : Option Answer) → stays_open (steps p) ≡ true → p ≡ None
-on_answer (Some a) e = absurd (true≢false (sym e))
-on_answer None e = refl
+tied_begin : (H : History) (r : Ring) → Tied H r → (s : ℕ) (task : Task) → s < 16 → length r.board.seats ≡ 16 → Tied (begin_moment s task r (begun r s task) ∷ H) (begun r s task)
+tied_begin H r tied s task sits sixteen i =
+    let t : Seat = Start (beginning task) in
+    elim (cases_eq s i) [
+      | inl e ↦ rw (eq-eqb s i e, ← e, seat_here r s r.cells r.board.hints t (omega arith)) refl
+      | inr n ↦ rw (ne_eqb s i n, seat_else r s r.cells r.board.hints t i (λ z. n (sym z))) (tied i)
+    ]
 
 tied_step : (limits : Limits) (H : History) (r : Ring) → Tied H r → (s : ℕ) → s < 16 → length r.board.seats ≡ 16 → is_idle (seat_at r s) ≡ false → Tied (step_moment s r (advanced limits r s).ring (advanced limits r s).answer ∷ H) (advanced limits r s).ring
-tied_step limits H r tied s sits sixteen busy i open' =
+tied_step limits H r tied s sits sixteen busy i =
     let x : Stepped = step_seat limits r.board.size r.cells r.board.hints (seat_at r s) in
     elim (cases_eq s i) [
-      | inl e ↦ subst (λ (k : ℕ). (k < 16) × (is_idle (seat_at (advanced limits r s).ring k) ≡ false)) e
-          (sits, busy_on limits r s (omega arith) busy (on_answer (advanced limits r s).answer (rw (eq-eqb s i e) at open')))
-      | inr n ↦
-          let before = tied i (rw (ne_eqb s i n) at open') in
-          (before.0, rw (seat_else r s x.cells x.hints x.seat i (λ z. n (sym z))) before.1)
+      | inl e ↦ rw (eq-eqb s i e, ← e) (busy_while_open limits r s (omega arith) busy)
+      | inr n ↦ rw (ne_eqb s i n, seat_else r s x.cells x.hints x.seat i (λ z. n (sym z))) (tied i)
+    ]
+
+-- a seat that is not there carries no call
+none_past : (r : Ring) (s : ℕ) → length r.board.seats ≡ 16 → is_idle (seat_at r s) ≡ false → s < 16
+none_past r s sixteen busy =
+    elim (cases_lt s 16) [
+      | inl l ↦ l
+      | inr m ↦ absurd (true≢false (rw (get_or_past r.board.seats s Idle (omega arith)) at busy))
     ]
 
 -- WHAT HOLDS OF AN OPEN CALL
@@ -133,6 +138,7 @@ open_call S limits cells puts takes sh (Note c h o) a busy w =
 -- THE THEOREM
 record Good (S : ℕ) (limits : Limits) (H : History) (r : Ring) : Type 0 where
   pub holds : Holds S limits H r
+  pub turns : EveryTurn H
   pub answers : EveryAnswer S limits H
   pub tied : Tied H r
 
@@ -140,6 +146,7 @@ good_begin : (S : ℕ) (limits : Limits) (H : History) (r : Ring) → Good S lim
 good_begin S limits H r g s task sits free fits =
     record {
       holds = begin_holds S limits H r g.holds s task sits fits;
+      turns = ((g.tied s ∙ ap not free, differences_none r.cells), g.turns);
       answers = (tt, g.answers);
       tied = tied_begin H r g.tied s task sits g.holds.sixteen;
     }
@@ -149,6 +156,7 @@ good_step S limits H r g s sits busy =
     let m = step_holds S limits H r g.holds s sits busy in
     record {
       holds = m.0;
+      turns = (g.tied s ∙ ap not busy, g.turns);
       answers = (m.1, g.answers);
       tied = tied_step limits H r g.tied s sits g.holds.sixteen busy;
     }
@@ -159,16 +167,19 @@ good_on S limits ds H r g =
     (λ H' r' g' s sits busy on. busy_on limits r' s (omega (arith, g'.holds.sixteen)) busy on) ds H r g
 
 good_new : (S : ℕ) (limits : Limits) → 2 ≤ S → Good S limits [] (new_ring S)
-good_new S limits two = record { holds = new_holds S limits two; answers = tt; tied = λ i o. absurd (true≢false (sym o)) }
+good_new S limits two =
+    record { holds = new_holds S limits two; turns = tt; answers = tt; tied = λ i. sym (ap not (tied_new S i)) }
 
 good_lawful : (S : ℕ) (limits : Limits) (H : History) (r : Ring) → Good S limits H r → Lawful S limits H
 good_lawful S limits H r g =
     record {
       first_in_first_out = g.holds.shape.first;
+      one_call_at_a_time = g.turns;
       answered_calls = g.answers;
       open_calls = λ s o.
-          let sits = g.tied s o in
-          open_call S limits r.cells (numbers_put H) (numbers_taken H) g.holds.shape (seat_at r s) (account_of limits s H) sits.1 (g.holds.seats s sits.0);
+          let busy = not-true (is_idle (seat_at r s)) (sym (g.tied s) ∙ o) in
+          open_call S limits r.cells (numbers_put H) (numbers_taken H) g.holds.shape (seat_at r s) (account_of limits s H) busy
+          (g.holds.seats s (none_past r s g.holds.sixteen busy));
     }
 
 pub runs_lawfully : (S : ℕ) (limits : Limits) (r : Ring) → 2 ≤ S → r ≡ new_ring S → RunsLawfully S limits r

@@ -82,8 +82,8 @@ module _ (S : ℕ) (limits : Limits) (h : ℕ) (p u : Cell) (l : h < S) where
   no' : ordered ≡ false → place S h u ≤ place S (previous S h) p
   no' e = before_no S (previous S h) h p u (previous_inside S h l) l e
 
-  due : line_one (filled p) (filled u) ordered ≡ true → Due S h p u (expected_round p h)
-  due e =
+  due_on_line_one : line_one (filled p) (filled u) ordered ≡ true → Due S h p u (expected_round p h)
+  due_on_line_one e =
       elim (one_means (filled p) (filled u) ordered e).1 [
         | inl t ↦ let f = filled_yes p t in inl (f, expected_after_filled S h p l f)
         | inr t ↦ let z = filled_no p t.0 in inr (z, no' t.1, expected_after_empty S h p u l z (no' t.1))
@@ -95,8 +95,8 @@ module _ (S : ℕ) (limits : Limits) (h : ℕ) (p u : Cell) (l : h < S) where
       (λ e.
       let z : u.value ≡ 0 = filled_no u (one_means (filled p) (filled u) ordered e).0 in
       cond_both (leb limits.round (expected_round p h)) _ _ (PutMeans S limits v h p u)
-      (λ f. (refl, leb-true limits.round (expected_round p h) f, z, due e))
-      (λ f. (refl, refl, leb-false limits.round (expected_round p h) f, z, due e)))
+      (λ f. (refl, leb-true limits.round (expected_round p h) f, z, due_on_line_one e))
+      (λ f. (refl, refl, leb-false limits.round (expected_round p h) f, z, due_on_line_one e)))
       (λ e. cond_both (line_two (filled p) (filled u) ordered) _ _ (PutMeans S limits v h p u)
       (λ f. let t = two_means (filled p) (filled u) ordered f in (refl, filled_yes p t.0, no' t.2))
       (λ f. elim (neither_means (filled p) (filled u) ordered e f) [

@@ -31,13 +31,18 @@ begin_moment seat task ring after = record { seat = seat; deed = begins task; be
 abbrev pub step_moment : ℕ → Ring → Ring → Option Answer → Moment
 step_moment seat ring after answer = record { seat = seat; deed = steps answer; before = ring; after = after }
 
--- a run alone is as many moments as it makes steps
+-- the moments of a run alone: as many as it makes steps
 abbrev pub run_moments : Limits → ℕ → Ring → ℕ → History → History
 run_moments limits zero ring seat earlier = earlier
 run_moments limits (suc n) ring seat earlier =
     let m = advanced limits ring seat in
     let moments = step_moment seat ring m.ring m.answer ∷ earlier in
     unless_answered m.answer moments (run_moments limits n m.ring seat moments)
+
+-- the newest moment of a run is what the run returned: the ring that it left, and its answer
+abbrev pub returned : Ring → Option Answer → History → History
+returned after answer [] = []
+returned after answer (x ∷ H) = step_moment x.seat x.before after answer ∷ H
 
 -- a dealing that is refused leaves no moment
 abbrev pub if_accepted : {X : Type 0} → Dealt (Result X Refusal) → (Ring → X → History) → History → History
@@ -52,7 +57,7 @@ observed limits ring (BeginTake seat) earlier =
 observed limits ring (Step seat) earlier =
     if_accepted (step_once limits ring seat) (λ after answer. step_moment seat ring after answer ∷ earlier) earlier
 observed limits ring (RunAlone seat count) earlier =
-    if_accepted (run_alone limits ring seat count) (λ _ _. run_moments limits count ring seat earlier) earlier
+    if_accepted (run_alone limits ring seat count) (λ after answer. returned after answer (run_moments limits count ring seat earlier)) earlier
 
 -- what is observed of a list of dealings; the first dealing stands first in the list
 abbrev pub observed_from : Limits → Ring → List Dealing → History → History

@@ -115,15 +115,26 @@ account_of limits s H =
       look = last_look s H;
     }
 
--- seat s has begun a call, and no answer has come since
+-- whether a call is open after this deed: its begin, or a step that gave no answer
 abbrev pub stays_open : Deed → Bool
 stays_open (begins task) = true
 stays_open (steps None) = true
 stays_open (steps (Some answer)) = false
 
+-- whether seat s has an open call: what it did last left one open
 abbrev pub is_open : ℕ → History → Bool
 is_open s [] = false
 is_open s (x ∷ H) = if x.seat == s then stays_open x.deed else is_open s H
+
+-- What may happen at a seat that has an open call or has none, and what cells it changed: a call begins where none is open, and changes no cell by that; a step is one of an open call. So a call is answered once, and no call is dropped for another.
+abbrev pub InTurn : Deed → Bool → List Change → Type 0
+InTurn (begins task) was_open made = (was_open ≡ false) × (made ≡ [])
+InTurn (steps answer) was_open made = was_open ≡ true
+
+-- every moment that there ever was came in its turn
+abbrev pub EveryTurn : History → Type 0
+EveryTurn [] = Unit {0}
+EveryTurn (x ∷ H) = InTurn x.deed (is_open x.seat H) (changes x) × EveryTurn H
 
 -- THE NUMBERS PUT AND TAKEN, in order: what puts stored and what takes removed, by successful exchanges
 abbrev pub is_put : Task → Bool
@@ -213,6 +224,7 @@ EveryAnswer S limits (x ∷ H) = AtAnswer S limits x.deed (account_of limits x.s
 pub record Lawful (S : ℕ) (limits : Limits) (H : History) : Type 0 where
   -- the numbers taken are the first of those put
   pub first_in_first_out : numbers_taken H ≡ take (length (numbers_taken H)) (numbers_put H)
+  pub one_call_at_a_time : EveryTurn H
   pub answered_calls : EveryAnswer S limits H
   pub open_calls : (s : ℕ) → is_open s H ≡ true → OpenCall S (account_of limits s H)
 

@@ -56,13 +56,13 @@ pub record Dealt (A : Type 0) : Type 0 where
   pub answer : A
 
 -- the same, by the cells and the board that it leaves
-abbrev pub dealt : {A : Type 0} → List Cell → Board → A → Dealt A
-dealt cells board answer = record { ring = ring_of cells board; answer = answer }
+abbrev pub after_call : {A : Type 0} → List Cell → Board → A → Dealt A
+after_call cells board answer = record { ring = ring_of cells board; answer = answer }
 
 -- the ring after a step of a seat, and the answer, if the step gave one
 abbrev pub after_step : Ring → ℕ → Stepped → Dealt (Option Answer)
 after_step ring seat step =
-    dealt step.cells (record { size = ring.board.size; hints = step.hints; seats = slice_set ring.board.seats seat step.seat }) step.answer
+    after_call step.cells (record { size = ring.board.size; hints = step.hints; seats = slice_set ring.board.seats seat step.seat }) step.answer
 
 -- one step of a seat
 abbrev pub advanced : Limits → Ring → ℕ → Dealt (Option Answer)

@@ -1,7 +1,7 @@
 // The board of a ring, and the calls of its seats.
 ghost use Rattle.std.specs.Prelude.{◌≡◌, ◌<◌, []};
 ghost use Rattle.memory.specs.Refusals.{unless};
-ghost use Rattle.ring.specs.Rings.{ring_of, new_board, dealt, advanced, run, seat_causes, begin_causes, put_causes, step_causes, run_causes, begin_put, begin_take, step_once, run_alone};
+ghost use Rattle.ring.specs.Rings.{ring_of, new_board, after_call, advanced, run, seat_causes, begin_causes, put_causes, step_causes, run_causes, begin_put, begin_take, step_once, run_alone};
 
 use crate::calls::{Answer, Call, Task};
 use crate::looks::Circle;
@@ -13,8 +13,7 @@ use memory::rules::Memory;
 // What the seats of a ring share besides its cells. It holds no cell: each call is lent the memory.
 #[derive(Drop)]
 pub struct Board {
-    // The number of cells. By rule a board that no ring was made on is as any other, with size 0, which no memory that is admitted
-    // can have.
+    // The number of cells; 0 where no ring was made on the board, since no memory of no cells is admitted.
     pub(crate) size: u16,
     // Where a put and where a take begins to look.
     pub(crate) hints: Hints,
@@ -44,7 +43,8 @@ impl Board {
 
     // The place of a seat in the table, if there is such a seat and the memory has the board's size.
     fn admit<M: Memory>(&self, memory: &M, seat: u8) -> Result<usize, Refusal>
-        ensures { result ≡ unless (seat_causes (ring_of (M.cells memory.now) self.now) seat []) seat }
+        ensures { result
+            ≡ unless (seat_causes (ring_of (M.cells memory.now) self.now) seat []) seat }
     {
         if seat > 15 {
             return Err(Refusal::NoSeat { seat });
@@ -58,7 +58,8 @@ impl Board {
 
     // The same of a seat that carries no call.
     fn admit_begin<M: Memory>(&self, memory: &M, seat: u8) -> Result<usize, Refusal>
-        ensures { result ≡ unless (begin_causes (ring_of (M.cells memory.now) self.now) seat []) seat }
+        ensures { result
+            ≡ unless (begin_causes (ring_of (M.cells memory.now) self.now) seat []) seat }
     {
         let at = self.admit(memory, seat)?;
         if !self.seats[at].is_idle() {
@@ -69,7 +70,8 @@ impl Board {
 
     // The same, with a value to put.
     fn admit_put<M: Memory>(&self, memory: &M, seat: u8, value: u64) -> Result<usize, Refusal>
-        ensures { result ≡ unless (put_causes M.Element.LIMITS (ring_of (M.cells memory.now) self.now) seat value) seat }
+        ensures { result
+            ≡ unless (put_causes M.Element.LIMITS (ring_of (M.cells memory.now) self.now) seat value) seat }
     {
         let at = self.admit_begin(memory, seat)?;
         if value == 0 || value > M::Element::LIMITS.value {
@@ -81,7 +83,8 @@ impl Board {
     // The same of a seat that carries one. It asks for the opposite of a begin and refuses with another cause, so it stays a
     // function of its own.
     fn admit_step<M: Memory>(&self, memory: &M, seat: u8) -> Result<usize, Refusal>
-        ensures { result ≡ unless (step_causes (ring_of (M.cells memory.now) self.now) seat []) seat }
+        ensures { result
+            ≡ unless (step_causes (ring_of (M.cells memory.now) self.now) seat []) seat }
     {
         let at = self.admit(memory, seat)?;
         if self.seats[at].is_idle() {
@@ -92,7 +95,8 @@ impl Board {
 
     // The same, for a run alone of so many steps.
     fn admit_run<M: Memory>(&self, memory: &M, seat: u8, count: u16) -> Result<usize, Refusal>
-        ensures { result ≡ unless (run_causes (ring_of (M.cells memory.now) self.now) seat count) seat }
+        ensures { result
+            ≡ unless (run_causes (ring_of (M.cells memory.now) self.now) seat count) seat }
     {
         let at = self.admit_step(memory, seat)?;
         if count == 0 || count > 8192 {
@@ -103,7 +107,8 @@ impl Board {
 
     // Begins a put of this value in an idle seat.
     pub fn begin_put<M: Memory>(&mut self, memory: &M, seat: u8, value: u64) -> Result<(), Refusal>
-        ensures { dealt (M.cells memory.now) self.new result ≡ begin_put M.Element.LIMITS (ring_of (M.cells memory.now) self.old) seat value }
+        ensures { after_call (M.cells memory.now) self.new result
+            ≡ begin_put M.Element.LIMITS (ring_of (M.cells memory.now) self.old) seat value }
     {
         let at = self.admit_put(memory, seat, value)?;
         self.seats[at] = Seat::Start(Call::begin(Task::Put { value }));
@@ -112,7 +117,8 @@ impl Board {
 
     // Begins a take in an idle seat. A put asks for a value besides, so the two stay two calls.
     pub fn begin_take<M: Memory>(&mut self, memory: &M, seat: u8) -> Result<(), Refusal>
-        ensures { dealt (M.cells memory.now) self.new result ≡ begin_take (ring_of (M.cells memory.now) self.old) seat }
+        ensures { after_call (M.cells memory.now) self.new result
+            ≡ begin_take (ring_of (M.cells memory.now) self.old) seat }
     {
         let at = self.admit_begin(memory, seat)?;
         self.seats[at] = Seat::Start(Call::begin(Task::Take));
@@ -123,7 +129,8 @@ impl Board {
     // here and in `run`, and nowhere else.
     fn advance<M: Memory>(&mut self, memory: &mut M, at: usize) -> Option<Answer>
         requires { at < 16 }
-        ensures after { dealt (M.cells memory.new) self.new result ≡ advanced M.Element.LIMITS (ring_of (M.cells memory.old) self.old) at }
+        ensures after { after_call (M.cells memory.new) self.new result
+            ≡ advanced M.Element.LIMITS (ring_of (M.cells memory.old) self.old) at }
         ensures apart { M.frame memory.new ≡ M.frame memory.old }
     {
         let circle = Circle { size: self.size };
@@ -132,7 +139,8 @@ impl Board {
 
     // One step of the call that a seat carries, and its answer. None: the call goes on.
     pub fn step<M: Memory>(&mut self, memory: &mut M, seat: u8) -> Result<Option<Answer>, Refusal>
-        ensures after { dealt (M.cells memory.new) self.new result ≡ step_once M.Element.LIMITS (ring_of (M.cells memory.old) self.old) seat }
+        ensures after { after_call (M.cells memory.new) self.new result
+            ≡ step_once M.Element.LIMITS (ring_of (M.cells memory.old) self.old) seat }
         ensures apart { M.frame memory.new ≡ M.frame memory.old }
     {
         let at = self.admit_step(memory, seat)?;
@@ -144,7 +152,8 @@ impl Board {
     #[tactic(auto, using(crate::proofs::Running::run_steps))]
     fn run<M: Memory>(&mut self, memory: &mut M, at: usize, count: u16) -> Option<Answer>
         requires { at < 16 }
-        ensures after { dealt (M.cells memory.new) self.new result ≡ run M.Element.LIMITS count (ring_of (M.cells memory.old) self.old) at }
+        ensures after { after_call (M.cells memory.new) self.new result
+            ≡ run M.Element.LIMITS count (ring_of (M.cells memory.old) self.old) at }
         ensures apart { M.frame memory.new ≡ M.frame memory.old }
     {
         for _ in 0..count {
@@ -162,7 +171,8 @@ impl Board {
         seat: u8,
         count: u16,
     ) -> Result<Option<Answer>, Refusal>
-        ensures after { dealt (M.cells memory.new) self.new result ≡ run_alone M.Element.LIMITS (ring_of (M.cells memory.old) self.old) seat count }
+        ensures after { after_call (M.cells memory.new) self.new result
+            ≡ run_alone M.Element.LIMITS (ring_of (M.cells memory.old) self.old) seat count }
         ensures apart { M.frame memory.new ≡ M.frame memory.old }
     {
         let at = self.admit_run(memory, seat, count)?;

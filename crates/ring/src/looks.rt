@@ -51,8 +51,8 @@ pub(crate) enum Verdict {
     Onward,
 }
 
-// What a call has seen at a look: the cell at an index and, before it, the cell at the previous index. The later one has a round
-// that the memory allows.
+// What a call has seen at a look: the cell at an index and, read before it, the cell at the previous index. The round of the
+// cell is one that the memory allows.
 #[derive(Clone, Copy)]
 pub(crate) struct Sight {
     pub(crate) limits: Limits,
@@ -66,7 +66,8 @@ pub(crate) struct Sight {
 impl Sight {
     // Where the call goes. A put and a take go by two rules, and not by one with a value for each.
     pub(crate) fn judge(self, task: Task) -> Verdict
-        ensures { result ≡ verdict_of self.limits self.circle.size task self.index self.previous self.cell }
+        ensures { result
+            ≡ verdict_of self.limits self.circle.size task self.index self.previous self.cell }
     {
         match task {
             Task::Put { value } => self.judge_put(value),
@@ -76,7 +77,8 @@ impl Sight {
 
     // Where a put of this value goes: the earliest line that fits.
     fn judge_put(self, value: u64) -> Verdict
-        ensures { result ≡ put_verdict self.limits self.circle.size value self.index self.previous self.cell }
+        ensures { result
+            ≡ put_verdict self.limits self.circle.size value self.index self.previous self.cell }
     {
         let ordered = self.is_ordered();
         let round = self.expected_round();
@@ -96,7 +98,8 @@ impl Sight {
 
     // Where a take goes.
     fn judge_take(self) -> Verdict
-        ensures { result ≡ take_verdict self.limits self.circle.size self.index self.previous self.cell }
+        ensures { result
+            ≡ take_verdict self.limits self.circle.size self.index self.previous self.cell }
     {
         match (self.is_ordered(), self.cell.is_filled()) {
             (true, _) => Verdict::Onward,
@@ -111,7 +114,8 @@ impl Sight {
 
     // Whether the previous cell is before this one.
     fn is_ordered(self) -> bool
-        ensures { result ≡ before self.previous (previous self.circle.size self.index) self.cell self.index }
+        ensures { result
+            ≡ before self.previous (previous self.circle.size self.index) self.cell self.index }
     {
         let at = self.circle.before(self.index) as usize;
         self.previous.is_before(at, self.cell, self.index as usize)

@@ -42,7 +42,7 @@ impl Hints {
 }
 
 // The cell at an index. That a look outside the memory, which finds no cell, reads as a fresh one is a formality: no dealings
-// with a ring lead outside. By rule a step takes the look's Option apart, so that both cases can be read.
+// with a ring lead outside. A match takes the look's Option apart, so that both cases can be read.
 fn read<M: Memory>(memory: &M, index: u16) -> Cell
     ensures value { result ≡ cell_at (M.cells memory.now) index }
     ensures within { Within M.Element.LIMITS result }
@@ -53,7 +53,7 @@ fn read<M: Memory>(memory: &M, index: u16) -> Cell
     }
 }
 
-// The cell at an index, and where a look at it leads that has read the previous cell before.
+// Reads the cell at an index, and judges it by the previous cell, which was read earlier.
 fn look<M: Memory>(
     memory: &M,
     circle: Circle,
@@ -62,7 +62,8 @@ fn look<M: Memory>(
     previous: Cell,
 ) -> (Cell, Verdict)
     ensures cell { result.0 ≡ cell_at (M.cells memory.now) index }
-    ensures verdict { result.1 ≡ verdict_of M.Element.LIMITS circle.size task index previous (cell_at (M.cells memory.now) index) }
+    ensures verdict { result.1
+        ≡ verdict_of M.Element.LIMITS circle.size task index previous (cell_at (M.cells memory.now) index) }
 {
     let cell = read(memory, index);
     let sight = Sight {
@@ -107,12 +108,16 @@ impl Seat {
         circle: Circle,
         hints: &mut Hints,
     ) -> Option<Answer>
-        ensures after { record { cells = M.cells memory.new; hints = hints.new; seat = self.new; answer = result } ≡ step_seat M.Element.LIMITS circle.size (M.cells memory.old) hints.old self.old }
+        ensures after { record { cells = M.cells memory.new; hints = hints.new; seat = self.new; answer = result }
+            ≡ step_seat M.Element.LIMITS circle.size (M.cells memory.old) hints.old self.old }
         ensures apart { M.frame memory.new ≡ M.frame memory.old }
     {
         *self = match *self {
+            // No dealing comes here: a step of an idle seat is refused before.
             Seat::Idle => Seat::Idle,
             Seat::Start(call) => Seat::First(call.stepped(), hints.of(call.task)),
+            // The predecessor is read first, and each cell that is read is carried on as the next predecessor: were the cell read
+            // first, it could be gone by the time its predecessor is read, and a line of one number could be called full.
             Seat::First(call, index) => {
                 Seat::Look(call.stepped(), index, read(memory, circle.before(index)))
             }

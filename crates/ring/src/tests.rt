@@ -51,6 +51,25 @@ fn a_put_alone_is_placed_in_five_steps(rt: HostRuntime) {
 }
 
 #[test]
+fn a_log_tells_what_came_of_each_dealing(rt: HostRuntime) {
+    let mut log = [
+        put(0, 258),
+        run(0, 5),
+        take(1),
+        run(1, 9),
+        take(1),
+        run(1, 9),
+        step(0),
+    ];
+    let last = last_reply(&mut [0; 2], &mut log);
+    assert_eq!(rt; last, Some(Err(Refusal::SeatIdle { seat: 0 })));
+    assert_eq!(rt; log[0].reply, Some(Ok(Reply::Begun)));
+    assert_eq!(rt; log[1].reply, answered(Outcome::Placed, 5, 0));
+    assert_eq!(rt; log[3].reply, answered(Outcome::Taken { value: 258 }, 5, 0));
+    assert_eq!(rt; log[5].reply, answered(Outcome::Empty, 3, 0));
+}
+
+#[test]
 fn calls_alone_are_answered_by_what_waits(rt: HostRuntime) {
     let none = last_reply(&mut [0; 2], &mut [take(0), run(0, 9)]);
     assert_eq!(rt; none, answered(Outcome::Empty, 3, 0));
@@ -66,6 +85,8 @@ fn calls_alone_are_answered_by_what_waits(rt: HostRuntime) {
     assert_eq!(rt; full, answered(Outcome::Full, 4, 0));
 }
 
+// Both come to the exchange for cell 0. Seat 0 exchanges and pauses before its note, so seat 1, which fails and starts again,
+// reads a hint that is still 0: five steps more, and one for the look at cell 0, which is filled by now.
 #[test]
 fn a_put_that_comes_second_fails_once_and_is_placed(rt: HostRuntime) {
     let mut log = [
