@@ -80,10 +80,13 @@ fn look<M: Memory>(
 // that it has to know for that.
 #[derive(Clone, Copy)]
 pub enum Seat {
+    // Carries none. A step of such a seat is refused before it comes here.
     Idle,
     // Reads the hint.
     Start(Call),
-    // Reads the cell before this index.
+    // Reads the cell before this index. It is read before the cell at the index, and each cell that is read is carried on as the
+    // next one before: read the other way round, the cell could be gone by the time the one before is read, and a line of one
+    // number could be called full.
     First(Call, u16),
     // Reads the cell at this index, and goes by it and by the cell before.
     Look(Call, u16, Cell),
@@ -113,11 +116,8 @@ impl Seat {
         ensures apart { M.frame memory.new ≡ M.frame memory.old }
     {
         *self = match *self {
-            // No dealing comes here: a step of an idle seat is refused before.
             Seat::Idle => Seat::Idle,
             Seat::Start(call) => Seat::First(call.stepped(), hints.of(call.task)),
-            // The predecessor is read first, and each cell that is read is carried on as the next predecessor: were the cell read
-            // first, it could be gone by the time its predecessor is read, and a line of one number could be called full.
             Seat::First(call, index) => {
                 Seat::Look(call.stepped(), index, read(memory, circle.before(index)))
             }
