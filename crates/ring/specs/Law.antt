@@ -79,7 +79,7 @@ changes_of s H = flat_map (λ x. if x.seat == s then changes x else []) H
 abbrev pub others_of : ℕ → History → ℕ
 others_of s H = sum_by (λ x. length (if x.seat == s then [] else changes x)) H
 
--- what the last call of seat s was begun as; a seat that has begun none counts as one of a take
+-- what the last call of seat s was begun as; a seat that has begun none has no moment, and counts as one of a take
 abbrev pub task_of : Deed → Task → Task
 task_of (begins task) earlier = task
 task_of (steps answer) earlier = earlier
@@ -88,7 +88,7 @@ abbrev pub begun_as : ℕ → History → Task
 begun_as s [] = Take
 begun_as s (x ∷ H) = if x.seat == s then task_of x.deed (begun_as s H) else begun_as s H
 
--- all that had happened once the last call of seat s last looked, that look included; a last look is its last step that read cell u
+-- the history up to the last look of the last call of seat s, that look included: its last step that stood at look
 abbrev pub last_look : ℕ → History → Option History
 last_look s [] = None
 last_look s (x ∷ H) =
@@ -126,7 +126,9 @@ abbrev pub is_open : ℕ → History → Bool
 is_open s [] = false
 is_open s (x ∷ H) = if x.seat == s then stays_open x.deed else is_open s H
 
--- What may happen at a seat that has an open call or has none, and what cells it changed: a call begins where none is open, and changes no cell by that; a step is one of an open call. So a call is answered once, and no call is dropped for another.
+-- WHAT MAY HAPPEN AT A SEAT, by whether it has an open call, and with which changes
+-- A call begins where none is open, and changes no cell by that; a step is one of an open call.
+-- So a call is answered at most once, and none is dropped for another.
 abbrev pub InTurn : Deed → Bool → List Change → Type 0
 InTurn (begins task) was_open made = (was_open ≡ false) × (made ≡ [])
 InTurn (steps answer) was_open made = was_open ≡ true
@@ -224,6 +226,7 @@ EveryAnswer S limits (x ∷ H) = AtAnswer S limits x.deed (account_of limits x.s
 pub record Lawful (S : ℕ) (limits : Limits) (H : History) : Type 0 where
   -- the numbers taken are the first of those put
   pub first_in_first_out : numbers_taken H ≡ take (length (numbers_taken H)) (numbers_put H)
+  -- calls of a seat follow one another, and each is answered at most once
   pub one_call_at_a_time : EveryTurn H
   pub answered_calls : EveryAnswer S limits H
   pub open_calls : (s : ℕ) → is_open s H ≡ true → OpenCall S (account_of limits s H)

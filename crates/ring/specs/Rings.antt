@@ -1,4 +1,4 @@
--- A ring is a board with the cells that it was made on: what each call leaves of it, and what the call answers.
+-- A ring is a board with the cells that it was made on: what each method leaves of it, and what the method answers.
 use Rattle.std.specs.Prelude.{ℕ, zero, suc, Bool, true, false, not, ◌||◌, List, [], ◌∷◌, length, replicate, Some, None, Option, Ok, Err, Result, ◌==◌, nat_lt, slice_index_or, slice_set}
 use Rattle.memory.specs.declared.cells.Cell.{Cell}
 use Rattle.memory.specs.declared.cells.Limits.{Limits}
@@ -50,19 +50,19 @@ begun ring seat task =
       seats = slice_set ring.board.seats seat (Start (beginning task));
     })
 
--- what a call leaves, and its answer
+-- what a method leaves, and its answer
 pub record Dealt (A : Type 0) : Type 0 where
   pub ring : Ring
   pub answer : A
 
 -- the same, by the cells and the board that it leaves
-abbrev pub after_call : {A : Type 0} → List Cell → Board → A → Dealt A
-after_call cells board answer = record { ring = ring_of cells board; answer = answer }
+abbrev pub after_method : {A : Type 0} → List Cell → Board → A → Dealt A
+after_method cells board answer = record { ring = ring_of cells board; answer = answer }
 
 -- the ring after a step of a seat, and the answer, if the step gave one
 abbrev pub after_step : Ring → ℕ → Stepped → Dealt (Option Answer)
 after_step ring seat step =
-    after_call step.cells (record { size = ring.board.size; hints = step.hints; seats = slice_set ring.board.seats seat step.seat }) step.answer
+    after_method step.cells (record { size = ring.board.size; hints = step.hints; seats = slice_set ring.board.seats seat step.seat }) step.answer
 
 -- one step of a seat
 abbrev pub advanced : Limits → Ring → ℕ → Dealt (Option Answer)
@@ -79,14 +79,14 @@ run limits zero ring seat = record { ring = ring; answer = None }
 run limits (suc n) ring seat =
     unless_answered (advanced limits ring seat).answer (advanced limits ring seat) (run limits n (advanced limits ring seat).ring seat)
 
--- the ring `after` and the answer x, unless the call is refused: then the ring stays
+-- the ring `after` and the answer x, unless the method is refused: then the ring stays
 abbrev pub settled : {X : Type 0} → Result ℕ Refusal → Ring → Ring → X → Dealt (Result X Refusal)
 settled (Ok n) ring after x = record { ring = after; answer = Ok x }
 settled (Err cause) ring after x = record { ring = ring; answer = Err cause }
 
 -- THE CAUSES OF REFUSAL, in the order of their numbers, each with whether it applies
 
--- those that every call of a seat has, before others
+-- those that every method has that names a seat, before others
 abbrev pub seat_causes : Ring → ℕ → List (Bool × Refusal) → List (Bool × Refusal)
 seat_causes ring seat others =
     (nat_lt 15 seat, NoSeat seat)
@@ -113,7 +113,7 @@ run_causes ring seat count = step_causes ring seat ((count == 0 || nat_lt 8192 c
 abbrev pub size_causes : Ring → List (Bool × Refusal)
 size_causes ring = (not (is_ring_size (length ring.cells)), RingSize) ∷ []
 
--- THE CALLS
+-- THE METHODS
 abbrev pub begin_put : Limits → Ring → ℕ → ℕ → Dealt (Result (Unit {0}) Refusal)
 begin_put limits ring seat value = settled (unless (put_causes limits ring seat value) seat) ring (begun ring seat (Put value)) tt
 

@@ -1,7 +1,7 @@
 // The board of a ring, and the calls of its seats.
 ghost use Rattle.std.specs.Prelude.{◌≡◌, ◌<◌, []};
 ghost use Rattle.memory.specs.Refusals.{unless};
-ghost use Rattle.ring.specs.Rings.{ring_of, new_board, after_call, advanced, run, seat_causes, begin_causes, put_causes, step_causes, run_causes, begin_put, begin_take, step_once, run_alone};
+ghost use Rattle.ring.specs.Rings.{ring_of, new_board, after_method, advanced, run, seat_causes, begin_causes, put_causes, step_causes, run_causes, begin_put, begin_take, step_once, run_alone};
 
 use crate::calls::{Answer, Call, Task};
 use crate::looks::Circle;
@@ -10,7 +10,7 @@ use memory::elements::Element;
 use memory::refusals::Refusal;
 use memory::rules::Memory;
 
-// What the seats of a ring share besides its cells. It holds no cell: each call is lent the memory.
+// What the seats of a ring share besides its cells. It holds no cell: each method is lent the memory.
 #[derive(Drop)]
 pub struct Board {
     // The number of cells; 0 where no ring was made on the board, since no memory of no cells is admitted.
@@ -21,7 +21,7 @@ pub struct Board {
     pub(crate) seats: [Seat; 16],
 }
 
-// Each call is lent the memory beside the board, since a board may meet another memory of its size at any call.
+// Each method is lent the memory beside the board, since a board may meet another memory of its size at any dealing.
 impl Board {
     // A board with both hints at 0 and all seats idle.
     pub(crate) fn with_size(size: u16) -> Board
@@ -107,7 +107,7 @@ impl Board {
 
     // Begins a put of this value in an idle seat.
     pub fn begin_put<M: Memory>(&mut self, memory: &M, seat: u8, value: u64) -> Result<(), Refusal>
-        ensures { after_call (M.cells memory.now) self.new result
+        ensures { after_method (M.cells memory.now) self.new result
             ≡ begin_put M.Element.LIMITS (ring_of (M.cells memory.now) self.old) seat value }
     {
         let at = self.admit_put(memory, seat, value)?;
@@ -115,9 +115,9 @@ impl Board {
         Ok(())
     }
 
-    // Begins a take in an idle seat. A put asks for a value besides, so the two stay two calls.
+    // Begins a take in an idle seat. A put asks for a value besides, so the two stay two methods.
     pub fn begin_take<M: Memory>(&mut self, memory: &M, seat: u8) -> Result<(), Refusal>
-        ensures { after_call (M.cells memory.now) self.new result
+        ensures { after_method (M.cells memory.now) self.new result
             ≡ begin_take (ring_of (M.cells memory.now) self.old) seat }
     {
         let at = self.admit_begin(memory, seat)?;
@@ -129,7 +129,7 @@ impl Board {
     // here and in `run`, and nowhere else.
     fn advance<M: Memory>(&mut self, memory: &mut M, at: usize) -> Option<Answer>
         requires { at < 16 }
-        ensures after { after_call (M.cells memory.new) self.new result
+        ensures after { after_method (M.cells memory.new) self.new result
             ≡ advanced M.Element.LIMITS (ring_of (M.cells memory.old) self.old) at }
         ensures apart { M.frame memory.new ≡ M.frame memory.old }
     {
@@ -139,7 +139,7 @@ impl Board {
 
     // One step of the call that a seat carries, and its answer. None: the call goes on.
     pub fn step<M: Memory>(&mut self, memory: &mut M, seat: u8) -> Result<Option<Answer>, Refusal>
-        ensures after { after_call (M.cells memory.new) self.new result
+        ensures after { after_method (M.cells memory.new) self.new result
             ≡ step_once M.Element.LIMITS (ring_of (M.cells memory.old) self.old) seat }
         ensures apart { M.frame memory.new ≡ M.frame memory.old }
     {
@@ -152,7 +152,7 @@ impl Board {
     #[tactic(auto, using(crate::proofs::Running::run_steps))]
     fn run<M: Memory>(&mut self, memory: &mut M, at: usize, count: u16) -> Option<Answer>
         requires { at < 16 }
-        ensures after { after_call (M.cells memory.new) self.new result
+        ensures after { after_method (M.cells memory.new) self.new result
             ≡ run M.Element.LIMITS count (ring_of (M.cells memory.old) self.old) at }
         ensures apart { M.frame memory.new ≡ M.frame memory.old }
     {
@@ -171,7 +171,7 @@ impl Board {
         seat: u8,
         count: u16,
     ) -> Result<Option<Answer>, Refusal>
-        ensures after { after_call (M.cells memory.new) self.new result
+        ensures after { after_method (M.cells memory.new) self.new result
             ≡ run_alone M.Element.LIMITS (ring_of (M.cells memory.old) self.old) seat count }
         ensures apart { M.frame memory.new ≡ M.frame memory.old }
     {

@@ -1,7 +1,7 @@
 // Dealings with a ring, as data.
 ghost use Rattle.std.specs.Prelude.{◌≡◌, None};
 ghost use Rattle.ring.specs.Dealings.{deal};
-ghost use Rattle.ring.specs.Rings.{ring_of, after_call};
+ghost use Rattle.ring.specs.Rings.{ring_of, after_method};
 
 use crate::board::Board;
 use crate::calls::Answer;
@@ -52,7 +52,7 @@ impl Entry {
 impl Board {
     // Carries out one dealing. Dealings are data and a closed set, so a match says more than a table of functions.
     pub fn deal<M: Memory>(&mut self, memory: &mut M, dealing: Dealing) -> Result<Reply, Refusal>
-        ensures after { after_call (M.cells memory.new) self.new result
+        ensures after { after_method (M.cells memory.new) self.new result
             ≡ deal M.Element.LIMITS (ring_of (M.cells memory.old) self.old) dealing }
         ensures apart { M.frame memory.new ≡ M.frame memory.old }
     {

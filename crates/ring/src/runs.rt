@@ -1,9 +1,9 @@
-// Whole runs of a ring: the calls that bear the law of whole runs.
+// Whole runs of a ring: the methods that bear the law of whole runs.
 ghost use Rattle.std.specs.Prelude.{◌≡◌, length, Ok, IsTrue};
 ghost use Rattle.memory.specs.Sizes.{is_ring_size};
 ghost use Rattle.ring.specs.Dealings.{ring_after, logged, dealings_of, carried_out, log_after};
 ghost use Rattle.ring.specs.Law.{RunsLawfully, LawfulThroughout};
-ghost use Rattle.ring.specs.Rings.{ring_of, new_ring, after_call, make_ring};
+ghost use Rattle.ring.specs.Rings.{ring_of, new_ring, after_method, make_ring};
 
 use crate::board::Board;
 use crate::dealings::Entry;
@@ -28,7 +28,7 @@ impl Board {
     // Makes a ring of all of a memory: clears the memory and fills the board. Whatever is then dealt with this board and this
     // memory, if nothing else changes them, is lawful.
     pub fn make<M: Memory>(&mut self, memory: &mut M) -> Result<(), Refusal>
-        ensures after { after_call (M.cells memory.new) self.new result
+        ensures after { after_method (M.cells memory.new) self.new result
             ≡ make_ring (ring_of (M.cells memory.old) self.old) }
         ensures law { result ≡ Ok tt
             → RunsLawfully (length (M.cells memory.old)) M.Element.LIMITS (ring_of (M.cells memory.new) self.new) }
@@ -58,7 +58,7 @@ impl Board {
     // Makes a ring of all of a memory and carries out every dealing of a log with it, each meeting the ring as the one before
     // left it. What comes of a dealing, refused ones included, is written beside it. The whole run is lawful.
     pub fn carry_out<M: Memory>(&mut self, memory: &mut M, log: &mut [Entry]) -> Result<(), Refusal>
-        ensures after { after_call (M.cells memory.new) self.new result
+        ensures after { after_method (M.cells memory.new) self.new result
             ≡ carried_out M.Element.LIMITS (ring_of (M.cells memory.old) self.old) log.old }
         ensures replies { log.new
             ≡ log_after M.Element.LIMITS (ring_of (M.cells memory.old) self.old) log.old }
