@@ -87,7 +87,7 @@ impl Refusal {
         }
     }
 
-    // The layers are ranges of numbers, so a new cause has its layer from its place in the table.
+    // The layers are ranges of numbers, so a new cause has its layer by its number.
     pub fn layer(self) -> Layer
         ensures { result ≡ layer_of self }
     {

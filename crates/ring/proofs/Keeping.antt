@@ -1,5 +1,5 @@
 -- What every accepted begin and every accepted step keep is kept by all dealings.
-use Rattle.std.proofs.Common.{◌≡◌, ℕ, zero, suc, ◌<◌, Bool, true, false, ◌||◌, eqb, ltb, List, [], ◌∷◌, Some, None, Option, Err, sym, refl, ap, arith}
+use Rattle.std.proofs.Common.{◌≡◌, ℕ, zero, suc, ◌-◌, ◌<◌, Bool, true, false, ◌||◌, eqb, ltb, List, [], ◌∷◌, Some, None, Option, Err, refl, subst, arith}
 use Rattle.std.proofs.lemmas.Bool.{cond_both, ltb-false, eqb-false, or_parts, not-false}
 use Rattle.memory.specs.declared.cells.Limits.{Limits}
 use Rattle.memory.specs.declared.refusals.Refusal.{Refusal}
@@ -9,9 +9,11 @@ use Rattle.ring.specs.declared.calls.Task.{Task}
 use Rattle.ring.specs.declared.calls.Task.TheVariants.{Put, Take}
 use Rattle.ring.specs.declared.dealings.Dealing.{Dealing}
 use Rattle.ring.specs.declared.dealings.Dealing.TheVariants.{BeginPut, BeginTake, Step, RunAlone}
+use Rattle.ring.specs.declared.dealings.Reply.{Reply}
+use Rattle.ring.specs.declared.dealings.Reply.TheVariants.{Begun, Stepped}
 use Rattle.ring.specs.Rings.{Ring, Dealt, seat_at, is_idle, begun, advanced, unless_answered, run, settled, put_causes, begin_causes, step_causes, run_causes}
-use Rattle.ring.specs.Dealings.{deal, ring_after}
-use Rattle.ring.specs.Histories.{History, begin_moment, step_moment, run_moments, returned, if_accepted, observed, observed_from}
+use Rattle.ring.specs.Dealings.{replying, deal, ring_after}
+use Rattle.ring.specs.Histories.{History, begin_moment, step_moment, run_moments, moments_of, if_accepted, observed, observed_from}
 use Rattle.ring.proofs.Invariant.{Fitting}
 
 -- no cause applies
@@ -23,12 +25,12 @@ module _ (limits : Limits) (P : History → Ring → Type 0)
     (on_begin : (H : History) (r : Ring) → P H r → (s : ℕ) (task : Task) → s < 16 → is_idle (seat_at r s) ≡ true → Fitting limits task → P (begin_moment s task r (begun r s task) ∷ H) (begun r s task))
     (on_step : (H : History) (r : Ring) → P H r → (s : ℕ) → s < 16 → is_idle (seat_at r s) ≡ false → P (step_moment s r (advanced limits r s).ring (advanced limits r s).answer ∷ H) (advanced limits r s).ring)
     (busy_on : (H : History) (r : Ring) → P H r → (s : ℕ) → s < 16 → is_idle (seat_at r s) ≡ false → (advanced limits r s).answer ≡ None → is_idle (seat_at (advanced limits r s).ring s) ≡ false) where
-  -- a refused call leaves the history and the ring as they were
-  settled_keeps : {X : Type 0} (causes : List (Bool × Refusal)) (n : ℕ) (r after : Ring) (x : X) (more : Ring → X → History) (H : History) → P H r → (NoCause causes → P (more after x) after) → P (if_accepted (settled (unless causes n) r after x) more H) (settled (unless causes n) r after x).ring
-  settled_keeps [] n r after x more H kept go = go tt
-  settled_keeps (cause ∷ causes) n r after x more H kept go =
-      cond_both cause.0 (Err cause.1) (unless causes n) (λ j. P (if_accepted (settled j r after x) more H) (settled j r after x).ring)
-      (λ _. kept) (λ e. settled_keeps causes n r after x more H kept (λ w. go (e, w)))
+  -- a refused dealing leaves the history and the ring as they were
+  settled_keeps : {X : Type 0} (f : X → Reply) (causes : List (Bool × Refusal)) (n : ℕ) (r after : Ring) (x : X) (more : Ring → Reply → History) (H : History) → P H r → (NoCause causes → P (more after (f x)) after) → P (if_accepted (replying f (settled (unless causes n) r after x)) more H) (settled (unless causes n) r after x).ring
+  settled_keeps f [] n r after x more H kept go = go tt
+  settled_keeps f (cause ∷ causes) n r after x more H kept go =
+      cond_both cause.0 (Err cause.1) (unless causes n) (λ j. P (if_accepted (replying f (settled j r after x)) more H) (settled j r after x).ring)
+      (λ _. kept) (λ e. settled_keeps f causes n r after x more H kept (λ w. go (e, w)))
 
   seat_within : (s : ℕ) → ltb 15 s ≡ false → s < 16
   seat_within s e = omega (arith, ltb-false 15 s e)
@@ -38,12 +40,23 @@ module _ (limits : Limits) (P : History → Ring → Type 0)
       let p = or_parts (eqb v 0) (ltb limits.value v) e in
       (omega (arith, eqb-false v 0 p.0), ltb-false limits.value v p.1)
 
+  one_before : (n : ℕ) → 0 < n → suc (n - 1) ≡ n
+  one_before n z = omega arith
+
   some_steps : (n : ℕ) → (eqb n 0 || ltb 8192 n) ≡ false → 0 < n
   some_steps n e = omega (arith, eqb-false n 0 (or_parts (eqb n 0) (ltb 8192 n) e).0)
 
-  run_keeps : (n : ℕ) (r : Ring) (s : ℕ) (H : History) → s < 16 → is_idle (seat_at r s) ≡ false → P H r → P (run_moments limits n r s H) (run limits n r s).ring
+  -- a run of n + 1 steps or fewer
+  abbrev Run : ℕ → Ring → ℕ → Dealt (Option Answer) → History → Type 0
+  Run n r s m H = P (run_moments limits n r s m.ring m.answer H) m.ring
+
+  run_keeps : (n : ℕ) (r : Ring) (s : ℕ) (H : History) → s < 16 → is_idle (seat_at r s) ≡ false → P H r → Run n r s (run limits (suc n) r s) H
   unfolding run
-  run_keeps zero r s H sits busy kept = kept
+  run_keeps zero r s H sits busy kept = go (advanced limits r s).answer refl
+    where
+      go : (p : Option Answer) → (advanced limits r s).answer ≡ p → Run zero r s (unless_answered p (advanced limits r s) (record { ring = (advanced limits r s).ring; answer = None })) H
+      go (Some a) e = on_step H r kept s sits busy
+      go None e = rw e at (on_step H r kept s sits busy)
   run_keeps (suc n) r s H sits busy kept =
       go (on_step H r kept s sits busy)
       (λ e. run_keeps n (advanced limits r s).ring s X sits (busy_on H r kept s sits busy e) (on_step H r kept s sits busy))
@@ -52,41 +65,28 @@ module _ (limits : Limits) (P : History → Ring → Type 0)
       X : History
       X = step_moment s r (advanced limits r s).ring (advanced limits r s).answer ∷ H
 
-      go : P X (advanced limits r s).ring → ((advanced limits r s).answer ≡ None → P (run_moments limits n (advanced limits r s).ring s X) (run limits n (advanced limits r s).ring s).ring) → (p : Option Answer) → (advanced limits r s).answer ≡ p → P (unless_answered p X (run_moments limits n (advanced limits r s).ring s X)) (unless_answered p (advanced limits r s) (run limits n (advanced limits r s).ring s)).ring
+      rest : Dealt (Option Answer)
+      rest = run limits (suc n) (advanced limits r s).ring s
+
+      go : P X (advanced limits r s).ring → ((advanced limits r s).answer ≡ None → Run n (advanced limits r s).ring s rest X) → (p : Option Answer) → (advanced limits r s).answer ≡ p
+          → let m = unless_answered p (advanced limits r s) rest in P (unless_answered p (step_moment s r m.ring m.answer ∷ H) (run_moments limits n (advanced limits r s).ring s m.ring m.answer X)) m.ring
       go now more (Some a) e = now
       go now more None e = more e
 
-  -- what a run returns is what its newest moment was anyway
-  abbrev Returned : Dealt (Option Answer) → History → Type 0
-  Returned m moments = returned m.ring m.answer moments ≡ moments
-
-  run_returned : (n : ℕ) (r : Ring) (s : ℕ) (H : History) → 0 < n → Returned (run limits n r s) (run_moments limits n r s H)
-  unfolding run
-  run_returned zero r s H z = absurd (omega arith)
-  run_returned (suc n) r s H z =
-      go n (run_returned n (advanced limits r s).ring s X) (advanced limits r s).answer refl
-    where
-      X : History
-      X = step_moment s r (advanced limits r s).ring (advanced limits r s).answer ∷ H
-
-      go : (k : ℕ) → (0 < k → Returned (run limits k (advanced limits r s).ring s) (run_moments limits k (advanced limits r s).ring s X)) → (p : Option Answer) → (advanced limits r s).answer ≡ p → Returned (unless_answered p (advanced limits r s) (run limits k (advanced limits r s).ring s)) (unless_answered p X (run_moments limits k (advanced limits r s).ring s X))
-      go k more (Some a) e = refl
-      go zero more None e = ap (λ (p : Option Answer). step_moment s r (advanced limits r s).ring p ∷ H) (sym e)
-      go (suc k) more None e = more (omega arith)
-
   pub deal_keeps : (d : Dealing) (H : History) (r : Ring) → P H r → P (observed limits r d H) (deal limits r d).ring
   deal_keeps (BeginPut s v) H r kept =
-      settled_keeps (put_causes limits r s v) s r (begun r s (Put v)) tt (λ after _. begin_moment s (Put v) r after ∷ H) H kept
+      settled_keeps (λ _. Begun) (put_causes limits r s v) s r (begun r s (Put v)) tt (λ after reply. moments_of limits r (BeginPut s v) after reply H) H kept
       (λ w. on_begin H r kept s (Put v) (seat_within s w.0) (not-false (is_idle (seat_at r s)) w.1.1.0) (value_fits v w.1.1.1.0))
   deal_keeps (BeginTake s) H r kept =
-      settled_keeps (begin_causes r s []) s r (begun r s Take) tt (λ after _. begin_moment s Take r after ∷ H) H kept
+      settled_keeps (λ _. Begun) (begin_causes r s []) s r (begun r s Take) tt (λ after reply. moments_of limits r (BeginTake s) after reply H) H kept
       (λ w. on_begin H r kept s Take (seat_within s w.0) (not-false (is_idle (seat_at r s)) w.1.1.0) tt)
   deal_keeps (Step s) H r kept =
-      settled_keeps (step_causes r s []) s r (advanced limits r s).ring (advanced limits r s).answer (λ after p. step_moment s r after p ∷ H) H kept
+      settled_keeps Stepped (step_causes r s []) s r (advanced limits r s).ring (advanced limits r s).answer (λ after reply. moments_of limits r (Step s) after reply H) H kept
       (λ w. on_step H r kept s (seat_within s w.0) w.1.1.0)
   deal_keeps (RunAlone s n) H r kept =
-      settled_keeps (run_causes r s n) s r (run limits n r s).ring (run limits n r s).answer (λ after p. returned after p (run_moments limits n r s H)) H kept
-      (λ w. rw (run_returned n r s H (some_steps n w.1.1.1.0)) (run_keeps n r s H (seat_within s w.0) w.1.1.0 kept))
+      settled_keeps Stepped (run_causes r s n) s r (run limits n r s).ring (run limits n r s).answer (λ after reply. moments_of limits r (RunAlone s n) after reply H) H kept
+      (λ w. subst (λ (k : ℕ). Run (n - 1) r s (run limits k r s) H) (one_before n (some_steps n w.1.1.1.0))
+      (run_keeps (n - 1) r s H (seat_within s w.0) w.1.1.0 kept))
 
   pub dealings_keep : (ds : List Dealing) (H : History) (r : Ring) → P H r → P (observed_from limits r ds H) (ring_after limits r ds)
   unfolding ring_after

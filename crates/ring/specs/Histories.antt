@@ -1,5 +1,5 @@
 -- What is observed of a ring: moments, each with the ring before and after it.
-use Rattle.std.specs.Prelude.{ℕ, zero, suc, List, [], ◌∷◌, Option, Ok, Err, Result}
+use Rattle.std.specs.Prelude.{ℕ, zero, suc, ◌-◌, List, [], ◌∷◌, None, Option, Ok, Err, Result}
 use Rattle.memory.specs.declared.cells.Limits.{Limits}
 use Rattle.memory.specs.declared.refusals.Refusal.{Refusal}
 use Rattle.ring.specs.declared.calls.Answer.{Answer}
@@ -7,7 +7,9 @@ use Rattle.ring.specs.declared.calls.Task.{Task}
 use Rattle.ring.specs.declared.calls.Task.TheVariants.{Put, Take}
 use Rattle.ring.specs.declared.dealings.Dealing.{Dealing}
 use Rattle.ring.specs.declared.dealings.Dealing.TheVariants.{BeginPut, BeginTake, Step, RunAlone}
-use Rattle.ring.specs.Rings.{Ring, Dealt, advanced, unless_answered, begin_put, begin_take, step_once, run_alone}
+use Rattle.ring.specs.declared.dealings.Reply.{Reply}
+use Rattle.ring.specs.declared.dealings.Reply.TheVariants.{Begun, Stepped}
+use Rattle.ring.specs.Rings.{Ring, Dealt, advanced, unless_answered}
 use Rattle.ring.specs.Dealings.{deal}
 
 -- what happened at a moment: a begin was accepted, or a step was, with the answer if it gave one
@@ -31,33 +33,35 @@ begin_moment seat task ring after = record { seat = seat; deed = begins task; be
 abbrev pub step_moment : ℕ → Ring → Ring → Option Answer → Moment
 step_moment seat ring after answer = record { seat = seat; deed = steps answer; before = ring; after = after }
 
--- the moments of a run alone: as many as it makes steps
-abbrev pub run_moments : Limits → ℕ → Ring → ℕ → History → History
-run_moments limits zero ring seat earlier = earlier
-run_moments limits (suc n) ring seat earlier =
+-- The moments of a run alone that makes at most one step more than this number: as many as it makes steps.
+-- The newest is what the run returned: the ring that it left, and its answer.
+abbrev pub run_moments : Limits → ℕ → Ring → ℕ → Ring → Option Answer → History → History
+run_moments limits zero ring seat after answer earlier = step_moment seat ring after answer ∷ earlier
+run_moments limits (suc n) ring seat after answer earlier =
     let m = advanced limits ring seat in
-    let moments = step_moment seat ring m.ring m.answer ∷ earlier in
-    unless_answered m.answer moments (run_moments limits n m.ring seat moments)
+    unless_answered m.answer (step_moment seat ring after answer ∷ earlier)
+    (run_moments limits n m.ring seat after answer (step_moment seat ring m.ring m.answer ∷ earlier))
 
--- the newest moment of a run is what the run returned: the ring that it left, and its answer
-abbrev pub returned : Ring → Option Answer → History → History
-returned after answer [] = []
-returned after answer (x ∷ H) = step_moment x.seat x.before after answer ∷ H
+-- the answer that a reply gives, if it gives one
+abbrev pub answer_in : Reply → Option Answer
+answer_in Begun = None
+answer_in (Stepped answer) = answer
+
+-- the moments of an accepted dealing with this ring, by the ring that it left and its reply, ahead of all earlier ones
+abbrev pub moments_of : Limits → Ring → Dealing → Ring → Reply → History → History
+moments_of limits ring (BeginPut seat value) after reply earlier = begin_moment seat (Put value) ring after ∷ earlier
+moments_of limits ring (BeginTake seat) after reply earlier = begin_moment seat Take ring after ∷ earlier
+moments_of limits ring (Step seat) after reply earlier = step_moment seat ring after (answer_in reply) ∷ earlier
+moments_of limits ring (RunAlone seat count) after reply earlier =
+    run_moments limits (count - 1) ring seat after (answer_in reply) earlier
 
 -- a dealing that is refused leaves no moment
-abbrev pub if_accepted : {X : Type 0} → Dealt (Result X Refusal) → (Ring → X → History) → History → History
-if_accepted d more earlier = elim d.answer [ Ok x ↦ more d.ring x | Err cause ↦ earlier ]
+abbrev pub if_accepted : Dealt (Result Reply Refusal) → (Ring → Reply → History) → History → History
+if_accepted d more earlier = elim d.answer [ Ok reply ↦ more d.ring reply | Err cause ↦ earlier ]
 
 -- what is observed of one dealing, ahead of all earlier moments
 abbrev pub observed : Limits → Ring → Dealing → History → History
-observed limits ring (BeginPut seat value) earlier =
-    if_accepted (begin_put limits ring seat value) (λ after _. begin_moment seat (Put value) ring after ∷ earlier) earlier
-observed limits ring (BeginTake seat) earlier =
-    if_accepted (begin_take ring seat) (λ after _. begin_moment seat Take ring after ∷ earlier) earlier
-observed limits ring (Step seat) earlier =
-    if_accepted (step_once limits ring seat) (λ after answer. step_moment seat ring after answer ∷ earlier) earlier
-observed limits ring (RunAlone seat count) earlier =
-    if_accepted (run_alone limits ring seat count) (λ after answer. returned after answer (run_moments limits count ring seat earlier)) earlier
+observed limits ring d earlier = if_accepted (deal limits ring d) (λ after reply. moments_of limits ring d after reply earlier) earlier
 
 -- what is observed of a list of dealings; the first dealing stands first in the list
 abbrev pub observed_from : Limits → Ring → List Dealing → History → History

@@ -79,7 +79,7 @@ changes_of s H = flat_map (λ x. if x.seat == s then changes x else []) H
 abbrev pub others_of : ℕ → History → ℕ
 others_of s H = sum_by (λ x. length (if x.seat == s then [] else changes x)) H
 
--- what the last call of seat s was begun as; a seat that has begun none has no moment, and counts as one of a take
+-- what the last call of seat s was begun as; a seat that has begun none counts as one of a take; in a lawful history it has no moment
 abbrev pub task_of : Deed → Task → Task
 task_of (begins task) earlier = task
 task_of (steps answer) earlier = earlier

@@ -13,7 +13,7 @@ use memory::rules::Memory;
 // What the seats of a ring share besides its cells. It holds no cell: each method is lent the memory.
 #[derive(Drop)]
 pub struct Board {
-    // The number of cells; 0 where no ring was made on the board, since no memory of no cells is admitted.
+    // The number of cells; 0 where no ring was made on the board. It then fits no memory, since one of no cells is never admitted.
     pub(crate) size: u16,
     // Where a put and where a take begins to look.
     pub(crate) hints: Hints,

@@ -51,8 +51,8 @@ pub(crate) enum Verdict {
     Onward,
 }
 
-// What a call has seen at a look: the cell at an index and, read before it, the cell at the previous index. The round of the
-// cell is one that the memory allows.
+// What a call has seen at a look: the cell at an index and, read before it, the cell at the previous index. The round of
+// `cell` is one that the memory allows.
 #[derive(Clone, Copy)]
 pub(crate) struct Sight {
     pub(crate) limits: Limits,

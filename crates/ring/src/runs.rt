@@ -25,8 +25,8 @@ impl Board {
         *self = Board::with_size(size as u16);
     }
 
-    // Makes a ring of all of a memory: clears the memory and fills the board. Whatever is then dealt with this board and this
-    // memory, if nothing else changes them, is lawful.
+    // Makes a ring of all of a memory: clears the memory and fills the board. All dealings to come with this board and this memory,
+    // if nothing else changes them, are lawful.
     pub fn make<M: Memory>(&mut self, memory: &mut M) -> Result<(), Refusal>
         ensures after { after_method (M.cells memory.new) self.new result
             ≡ make_ring (ring_of (M.cells memory.old) self.old) }

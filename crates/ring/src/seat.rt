@@ -80,15 +80,15 @@ fn look<M: Memory>(
 // that it has to know for that.
 #[derive(Clone, Copy)]
 pub enum Seat {
-    // Carries none. A step of such a seat is refused before it comes here.
+    // Carries no call. A step of such a seat is refused before it comes here.
     Idle,
     // Reads the hint.
     Start(Call),
-    // Reads the cell before this index. It is read before the cell at the index, and each cell that is read is carried on as the
-    // next one before: read the other way round, the cell could be gone by the time the one before is read, and a line of one
-    // number could be called full.
+    // Reads the previous cell, at the index before this one. It is read first, and each cell that is read then is carried on as
+    // the next previous one: in the other order the cell could be gone by the time that the previous one is read, and a line of
+    // one number could be called full.
     First(Call, u16),
-    // Reads the cell at this index, and goes by it and by the cell before.
+    // Reads the cell at this index, and goes by it and by the previous cell.
     Look(Call, u16, Cell),
     // Exchanges at this index the expected cell for the new one.
     Exchange(Call, u16, Cell, Cell),

@@ -65,7 +65,9 @@ fn a_log_tells_what_came_of_each_dealing(rt: HostRuntime) {
     assert_eq!(rt; last, Some(Err(Refusal::SeatIdle { seat: 0 })));
     assert_eq!(rt; log[0].reply, Some(Ok(Reply::Begun)));
     assert_eq!(rt; log[1].reply, answered(Outcome::Placed, 5, 0));
+    assert_eq!(rt; log[2].reply, Some(Ok(Reply::Begun)));
     assert_eq!(rt; log[3].reply, answered(Outcome::Taken { value: 258 }, 5, 0));
+    assert_eq!(rt; log[4].reply, Some(Ok(Reply::Begun)));
     assert_eq!(rt; log[5].reply, answered(Outcome::Empty, 3, 0));
 }
 
@@ -85,8 +87,8 @@ fn calls_alone_are_answered_by_what_waits(rt: HostRuntime) {
     assert_eq!(rt; full, answered(Outcome::Full, 4, 0));
 }
 
-// Both come to the exchange for cell 0. Seat 0 exchanges and pauses before its note, so seat 1, which fails and starts again,
-// reads a hint that is still 0: five steps more, and one for the look at cell 0, which is filled by now.
+// Both come to the exchange for cell 0. Seat 0 exchanges and pauses before its note. Seat 1's exchange, its fourth step, fails, and
+// it starts again from a hint that is still 0: the five steps of a put alone, and one look more, at cell 0, which is filled by now.
 #[test]
 fn a_put_that_comes_second_fails_once_and_is_placed(rt: HostRuntime) {
     let mut log = [
