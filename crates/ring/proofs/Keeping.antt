@@ -13,7 +13,7 @@ use Rattle.ring.specs.declared.dealings.Reply.{Reply}
 use Rattle.ring.specs.declared.dealings.Reply.TheVariants.{Begun, Stepped}
 use Rattle.ring.specs.Rings.{Ring, Dealt, seat_at, is_idle, begun, advanced, unless_answered, run, settled, put_causes, begin_causes, step_causes, run_causes}
 use Rattle.ring.specs.Dealings.{replying, deal, ring_after}
-use Rattle.ring.specs.Histories.{History, begin_moment, step_moment, run_moments, moments_of, if_accepted, observed, observed_from}
+use Rattle.ring.specs.Histories.{History, begin_moment, step_moment, run_moments, moments_of, observed, observed_from}
 use Rattle.ring.proofs.Invariant.{Fitting}
 
 -- no cause applies
@@ -26,11 +26,11 @@ module _ (limits : Limits) (P : History → Ring → Type 0)
     (on_step : (H : History) (r : Ring) → P H r → (s : ℕ) → s < 16 → is_idle (seat_at r s) ≡ false → P (step_moment s r (advanced limits r s).ring (advanced limits r s).answer ∷ H) (advanced limits r s).ring)
     (busy_on : (H : History) (r : Ring) → P H r → (s : ℕ) → s < 16 → is_idle (seat_at r s) ≡ false → (advanced limits r s).answer ≡ None → is_idle (seat_at (advanced limits r s).ring s) ≡ false) where
   -- a refused dealing leaves the history and the ring as they were
-  settled_keeps : {X : Type 0} (f : X → Reply) (causes : List (Bool × Refusal)) (n : ℕ) (r after : Ring) (x : X) (more : Ring → Reply → History) (H : History) → P H r → (NoCause causes → P (more after (f x)) after) → P (if_accepted (replying f (settled (unless causes n) r after x)) more H) (settled (unless causes n) r after x).ring
-  settled_keeps f [] n r after x more H kept go = go tt
-  settled_keeps f (cause ∷ causes) n r after x more H kept go =
-      cond_both cause.0 (Err cause.1) (unless causes n) (λ j. P (if_accepted (replying f (settled j r after x)) more H) (settled j r after x).ring)
-      (λ _. kept) (λ e. settled_keeps f causes n r after x more H kept (λ w. go (e, w)))
+  settled_keeps : {X : Type 0} (f : X → Reply) (d : Dealing) (causes : List (Bool × Refusal)) (n : ℕ) (r after : Ring) (x : X) (H : History) → P H r → (NoCause causes → P (moments_of limits r d after (f x) H) after) → P (observed limits r d (replying f (settled (unless causes n) r after x)) H) (settled (unless causes n) r after x).ring
+  settled_keeps f d [] n r after x H kept go = go tt
+  settled_keeps f d (cause ∷ causes) n r after x H kept go =
+      cond_both cause.0 (Err cause.1) (unless causes n) (λ j. P (observed limits r d (replying f (settled j r after x)) H) (settled j r after x).ring)
+      (λ _. kept) (λ e. settled_keeps f d causes n r after x H kept (λ w. go (e, w)))
 
   seat_within : (s : ℕ) → ltb 15 s ≡ false → s < 16
   seat_within s e = omega (arith, ltb-false 15 s e)
@@ -47,14 +47,14 @@ module _ (limits : Limits) (P : History → Ring → Type 0)
   some_steps n e = omega (arith, eqb-false n 0 (or_parts (eqb n 0) (ltb 8192 n) e).0)
 
   -- a run of n + 1 steps or fewer
-  abbrev Run : ℕ → Ring → ℕ → Dealt (Option Answer) → History → Type 0
-  Run n r s m H = P (run_moments limits n r s m.ring m.answer H) m.ring
+  abbrev KeptByRun : ℕ → Ring → ℕ → Dealt (Option Answer) → History → Type 0
+  KeptByRun n r s m H = P (run_moments limits n r s m.ring m.answer H) m.ring
 
-  run_keeps : (n : ℕ) (r : Ring) (s : ℕ) (H : History) → s < 16 → is_idle (seat_at r s) ≡ false → P H r → Run n r s (run limits (suc n) r s) H
+  run_keeps : (n : ℕ) (r : Ring) (s : ℕ) (H : History) → s < 16 → is_idle (seat_at r s) ≡ false → P H r → KeptByRun n r s (run limits (suc n) r s) H
   unfolding run
   run_keeps zero r s H sits busy kept = go (advanced limits r s).answer refl
     where
-      go : (p : Option Answer) → (advanced limits r s).answer ≡ p → Run zero r s (unless_answered p (advanced limits r s) (record { ring = (advanced limits r s).ring; answer = None })) H
+      go : (p : Option Answer) → (advanced limits r s).answer ≡ p → KeptByRun zero r s (unless_answered p (advanced limits r s) (record { ring = (advanced limits r s).ring; answer = None })) H
       go (Some a) e = on_step H r kept s sits busy
       go None e = rw e at (on_step H r kept s sits busy)
   run_keeps (suc n) r s H sits busy kept =
@@ -68,27 +68,27 @@ module _ (limits : Limits) (P : History → Ring → Type 0)
       rest : Dealt (Option Answer)
       rest = run limits (suc n) (advanced limits r s).ring s
 
-      go : P X (advanced limits r s).ring → ((advanced limits r s).answer ≡ None → Run n (advanced limits r s).ring s rest X) → (p : Option Answer) → (advanced limits r s).answer ≡ p
+      go : P X (advanced limits r s).ring → ((advanced limits r s).answer ≡ None → KeptByRun n (advanced limits r s).ring s rest X) → (p : Option Answer) → (advanced limits r s).answer ≡ p
           → let m = unless_answered p (advanced limits r s) rest in P (unless_answered p (step_moment s r m.ring m.answer ∷ H) (run_moments limits n (advanced limits r s).ring s m.ring m.answer X)) m.ring
       go now more (Some a) e = now
       go now more None e = more e
 
-  pub deal_keeps : (d : Dealing) (H : History) (r : Ring) → P H r → P (observed limits r d H) (deal limits r d).ring
+  pub deal_keeps : (d : Dealing) (H : History) (r : Ring) → P H r → P (observed limits r d (deal limits r d) H) (deal limits r d).ring
   deal_keeps (BeginPut s v) H r kept =
-      settled_keeps (λ _. Begun) (put_causes limits r s v) s r (begun r s (Put v)) tt (λ after reply. moments_of limits r (BeginPut s v) after reply H) H kept
+      settled_keeps (λ _. Begun) (BeginPut s v) (put_causes limits r s v) s r (begun r s (Put v)) tt H kept
       (λ w. on_begin H r kept s (Put v) (seat_within s w.0) (not-false (is_idle (seat_at r s)) w.1.1.0) (value_fits v w.1.1.1.0))
   deal_keeps (BeginTake s) H r kept =
-      settled_keeps (λ _. Begun) (begin_causes r s []) s r (begun r s Take) tt (λ after reply. moments_of limits r (BeginTake s) after reply H) H kept
+      settled_keeps (λ _. Begun) (BeginTake s) (begin_causes r s []) s r (begun r s Take) tt H kept
       (λ w. on_begin H r kept s Take (seat_within s w.0) (not-false (is_idle (seat_at r s)) w.1.1.0) tt)
   deal_keeps (Step s) H r kept =
-      settled_keeps Stepped (step_causes r s []) s r (advanced limits r s).ring (advanced limits r s).answer (λ after reply. moments_of limits r (Step s) after reply H) H kept
+      settled_keeps Stepped (Step s) (step_causes r s []) s r (advanced limits r s).ring (advanced limits r s).answer H kept
       (λ w. on_step H r kept s (seat_within s w.0) w.1.1.0)
   deal_keeps (RunAlone s n) H r kept =
-      settled_keeps Stepped (run_causes r s n) s r (run limits n r s).ring (run limits n r s).answer (λ after reply. moments_of limits r (RunAlone s n) after reply H) H kept
-      (λ w. subst (λ (k : ℕ). Run (n - 1) r s (run limits k r s) H) (one_before n (some_steps n w.1.1.1.0))
+      settled_keeps Stepped (RunAlone s n) (run_causes r s n) s r (run limits n r s).ring (run limits n r s).answer H kept
+      (λ w. subst (λ (k : ℕ). KeptByRun (n - 1) r s (run limits k r s) H) (one_before n (some_steps n w.1.1.1.0))
       (run_keeps (n - 1) r s H (seat_within s w.0) w.1.1.0 kept))
 
   pub dealings_keep : (ds : List Dealing) (H : History) (r : Ring) → P H r → P (observed_from limits r ds H) (ring_after limits r ds)
   unfolding ring_after
   dealings_keep [] H r kept = kept
-  dealings_keep (d ∷ ds) H r kept = dealings_keep ds (observed limits r d H) (deal limits r d).ring (deal_keeps d H r kept)
+  dealings_keep (d ∷ ds) H r kept = dealings_keep ds (observed limits r d (deal limits r d) H) (deal limits r d).ring (deal_keeps d H r kept)

@@ -1,5 +1,5 @@
 -- What is observed of a ring: moments, each with the ring before and after it.
-use Rattle.std.specs.Prelude.{ℕ, zero, suc, ◌-◌, List, [], ◌∷◌, None, Option, Ok, Err, Result}
+use Rattle.std.specs.Prelude.{ℕ, zero, suc, ◌-◌, List, [], ◌∷◌, Some, None, Option, Ok, Err, Result}
 use Rattle.memory.specs.declared.cells.Limits.{Limits}
 use Rattle.memory.specs.declared.refusals.Refusal.{Refusal}
 use Rattle.ring.specs.declared.calls.Answer.{Answer}
@@ -7,6 +7,7 @@ use Rattle.ring.specs.declared.calls.Task.{Task}
 use Rattle.ring.specs.declared.calls.Task.TheVariants.{Put, Take}
 use Rattle.ring.specs.declared.dealings.Dealing.{Dealing}
 use Rattle.ring.specs.declared.dealings.Dealing.TheVariants.{BeginPut, BeginTake, Step, RunAlone}
+use Rattle.ring.specs.declared.dealings.Entry.{Entry}
 use Rattle.ring.specs.declared.dealings.Reply.{Reply}
 use Rattle.ring.specs.declared.dealings.Reply.TheVariants.{Begun, Stepped}
 use Rattle.ring.specs.Rings.{Ring, Dealt, advanced, unless_answered}
@@ -55,19 +56,29 @@ moments_of limits ring (Step seat) after reply earlier = step_moment seat ring a
 moments_of limits ring (RunAlone seat count) after reply earlier =
     run_moments limits (count - 1) ring seat after (answer_in reply) earlier
 
--- a dealing that is refused leaves no moment
-abbrev pub if_accepted : Dealt (Result Reply Refusal) → (Ring → Reply → History) → History → History
-if_accepted d more earlier = elim d.answer [ Ok reply ↦ more d.ring reply | Err cause ↦ earlier ]
-
--- what is observed of one dealing, ahead of all earlier moments
-abbrev pub observed : Limits → Ring → Dealing → History → History
-observed limits ring d earlier = if_accepted (deal limits ring d) (λ after reply. moments_of limits ring d after reply earlier) earlier
+-- what is observed of one dealing, by the ring that it left and its answer, ahead of all earlier moments; one that is refused leaves no moment
+abbrev pub observed : Limits → Ring → Dealing → Dealt (Result Reply Refusal) → History → History
+observed limits ring d result earlier =
+    elim result.answer [ Ok reply ↦ moments_of limits ring d result.ring reply earlier | Err cause ↦ earlier ]
 
 -- what is observed of a list of dealings; the first dealing stands first in the list
 abbrev pub observed_from : Limits → Ring → List Dealing → History → History
 observed_from limits ring [] earlier = earlier
-observed_from limits ring (d ∷ ds) earlier = observed_from limits (deal limits ring d).ring ds (observed limits ring d earlier)
+observed_from limits ring (d ∷ ds) earlier =
+    let result = deal limits ring d in observed_from limits result.ring ds (observed limits ring d result earlier)
 
 -- the moments since the ring was as given
 abbrev pub history_of : Limits → Ring → List Dealing → History
 history_of limits ring ds = observed_from limits ring ds []
+
+-- what a log tells: the same by the answers that stand in it; an entry with none tells nothing
+abbrev pub if_replied : {X Y : Type 0} → Option X → (X → Y) → Y → Y
+if_replied None f y = y
+if_replied (Some x) f y = f x
+
+abbrev pub told_from : Limits → Ring → List Entry → History → History
+told_from limits ring [] earlier = earlier
+told_from limits ring (e ∷ es) earlier =
+    let left = (deal limits ring e.dealing).ring in
+    told_from limits left es
+    (if_replied e.reply (λ answer. observed limits ring e.dealing (record { ring = left; answer = answer }) earlier) earlier)

@@ -10,12 +10,13 @@ use Rattle.ring.specs.declared.calls.Outcome.TheVariants.{Placed, Empty, Full, T
 use Rattle.ring.specs.declared.calls.Task.{Task}
 use Rattle.ring.specs.declared.calls.Task.TheVariants.{Put, Take}
 use Rattle.ring.specs.declared.dealings.Dealing.{Dealing}
+use Rattle.ring.specs.declared.dealings.Entry.{Entry}
 use Rattle.ring.specs.declared.seat.Seat.{Seat}
 use Rattle.ring.specs.declared.seat.Seat.TheVariants.{Look, Exchange}
 use Rattle.ring.specs.Looks.{largest_count}
 use Rattle.ring.specs.Rings.{Ring, seat_at}
 use Rattle.ring.specs.Inside.{Meeting, board_after, Inside}
-use Rattle.ring.specs.Histories.{Deed, begins, steps, Moment, History, history_of}
+use Rattle.ring.specs.Histories.{Deed, begins, steps, Moment, History, history_of, told_from}
 
 -- WHERE A CALL STOOD before a moment of its seat
 abbrev pub stood : Moment → Seat
@@ -234,6 +235,10 @@ pub record Lawful (S : ℕ) (limits : Limits) (H : History) : Type 0 where
 -- the law holds after each of some dealings: after none of them, after the first, and so on
 abbrev pub LawfulThroughout : ℕ → Limits → Ring → List Dealing → Type 0
 LawfulThroughout S limits ring dealings = (n : ℕ) → Lawful S limits (history_of limits ring (take n dealings))
+
+-- the law holds of what a log tells, after each of its entries
+pub record ToldLawfully (S : ℕ) (limits : Limits) (ring : Ring) (log : List Entry) : Type 0 where
+  pub told : (n : ℕ) → Lawful S limits (told_from limits ring (take n log) [])
 
 -- what is promised of a ring as it is now: whatever the dealings with it will be, and whatever memories its board will meet
 pub record RunsLawfully (S : ℕ) (limits : Limits) (ring : Ring) : Type 0 where

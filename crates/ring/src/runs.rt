@@ -2,7 +2,7 @@
 ghost use Rattle.std.specs.Prelude.{◌≡◌, length, Ok, IsTrue};
 ghost use Rattle.memory.specs.Sizes.{is_ring_size};
 ghost use Rattle.ring.specs.Dealings.{ring_after, logged, dealings_of, carried_out, log_after};
-ghost use Rattle.ring.specs.Law.{RunsLawfully, LawfulThroughout};
+ghost use Rattle.ring.specs.Law.{RunsLawfully, LawfulThroughout, ToldLawfully};
 ghost use Rattle.ring.specs.Rings.{ring_of, new_ring, after_method, make_ring};
 
 use crate::board::Board;
@@ -56,7 +56,9 @@ impl Board {
     }
 
     // Makes a ring of all of a memory and carries out every dealing of a log with it, each meeting the ring as the one before
-    // left it. What comes of a dealing, refused ones included, is written beside it. The whole run is lawful.
+    // left it. What comes of a dealing, refused ones included, is written beside it. The whole run is lawful, and so
+    // is what the log tells of it.
+    #[tactic(auto, using(crate::proofs::Logs::told_lawfully))]
     pub fn carry_out<M: Memory>(&mut self, memory: &mut M, log: &mut [Entry]) -> Result<(), Refusal>
         ensures after { after_method (M.cells memory.new) self.new result
             ≡ carried_out M.Element.LIMITS (ring_of (M.cells memory.old) self.old) log.old }
@@ -65,6 +67,9 @@ impl Board {
         ensures law { result ≡ Ok tt
             → LawfulThroughout (length (M.cells memory.old)) M.Element.LIMITS
             (new_ring (length (M.cells memory.old))) (dealings_of log.old) }
+        ensures told { result ≡ Ok tt
+            → ToldLawfully (length (M.cells memory.old)) M.Element.LIMITS
+            (new_ring (length (M.cells memory.old))) log.new }
         ensures apart { M.frame memory.new ≡ M.frame memory.old }
     {
         self.make(memory)?;
