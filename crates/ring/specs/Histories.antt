@@ -71,11 +71,12 @@ observed_from limits ring (d ∷ ds) earlier =
 abbrev pub history_of : Limits → Ring → List Dealing → History
 history_of limits ring ds = observed_from limits ring ds []
 
--- what a log tells: the same by the answers that stand in it; an entry with none tells nothing
+-- f of what there is; y where there is nothing
 abbrev pub if_replied : {X Y : Type 0} → Option X → (X → Y) → Y → Y
 if_replied None f y = y
 if_replied (Some x) f y = f x
 
+-- what a log tells: the same as is observed, by the answers that stand in it; an entry with none tells nothing
 abbrev pub told_from : Limits → Ring → List Entry → History → History
 told_from limits ring [] earlier = earlier
 told_from limits ring (e ∷ es) earlier =

@@ -13,7 +13,8 @@ use memory::rules::Memory;
 // What the seats of a ring share besides its cells. It holds no cell: each method is lent the memory.
 #[derive(Drop)]
 pub struct Board {
-    // The number of cells; 0 where no ring was made on the board. It then fits no memory, since one of no cells is never admitted.
+    // The number of cells. A board that no ring was made on is as any other, with size 0: it then fits no memory, since one of no
+    // cells is never admitted.
     pub(crate) size: u16,
     // Where a put and where a take begins to look.
     pub(crate) hints: Hints,
